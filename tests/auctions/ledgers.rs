@@ -2,7 +2,7 @@ use freeze_ledger::ledger::Ledger;
 use std::alloc::{AllocError as NoMemory, Global};
 use std::test::Fail;
 
-// A ledger with room for these stations, frozen in this order, each at its price.
+// Returns a ledger in which these stations are frozen in this order, each at its price.
 fn frozen(alloc: Global, entries: &[(u32, u64)]) -> Result<Ledger, NoMemory> {
     let mut ledger = Ledger::new(alloc);
     for (s, price) in entries {
@@ -32,7 +32,7 @@ fn pays_each_its_own_price(rt: HostRuntime) -> Result<(), Fail> {
     Ok(())
 }
 
-// What is paid in all is the sum, up to the greatest that 64 bits hold.
+// The total is the sum of the prices, up to the greatest 64-bit number.
 #[test]
 fn sums_the_prices(rt: HostRuntime) -> Result<(), Fail> {
     for (entries, total) in [
@@ -49,7 +49,7 @@ fn sums_the_prices(rt: HostRuntime) -> Result<(), Fail> {
     Ok(())
 }
 
-// Room is made again and again, and for none: nothing that is paid changes.
+// Reserving room changes no price, also for zero entries.
 #[test]
 fn makes_room(rt: HostRuntime) -> Result<(), Fail> {
     let mut ledger = frozen(rt.alloc(), &[(2, 5)])?;

@@ -1,4 +1,4 @@
-//! What the check of an answer lets through, auctions of the core, driven by postings, and what each value would have won.
+//! Tests of the check of answers, of auctions driven by postings, of price schedules and ledgers, and of threshold values.
 
 mod answers;
 mod auctions;

@@ -5,7 +5,7 @@ use pack_defs::scenario::Scenario;
 use std::alloc::AllocError;
 use std::test::Fail;
 
-// The prices of a scenario with this opening, which fall so.
+// Returns the prices of a scenario with this opening and this fall.
 fn prices(rt: &HostRuntime, opening: u32, fall: Fall) -> Result<Vec<u32>, AllocError> {
     let scenario = Scenario {
         version: 1,
@@ -19,7 +19,7 @@ fn prices(rt: &HostRuntime, opening: u32, fall: Fall) -> Result<Vec<u32>, AllocE
     schedule(rt.alloc(), &scenario)
 }
 
-// The prices that fall by these decrements.
+// Returns the prices for these decrements.
 fn listed(rt: &HostRuntime, opening: u32, decrements: &[u32]) -> Result<Vec<u32>, AllocError> {
     let decrements = Items::from_vec(decrements.to_vec(rt.alloc())?);
     prices(rt, opening, Fall::Listed(decrements))
@@ -44,7 +44,7 @@ fn falls_by_rate(rt: HostRuntime) -> Result<(), Fail> {
         let prices = prices(&rt, opening, Fall::Rated { rate, floor })?;
         assert_eq!(rt; prices.as_slice(), expected);
     }
-    // Behind the thousandth fall nothing comes, though the price is still above 0.
+    // The schedule ends after 1,000 falls, although the price is still above 0.
     let prices = prices(&rt, 1_000_000, Fall::Rated { rate: 1, floor: 0 })?;
     assert_eq!(rt; prices.len(), 1_001);
     assert_eq!(rt; &prices[..2], [1_000_000, 999_000].as_slice());

@@ -1,4 +1,4 @@
-//! Tests of the command `batch`: a row has a list, what is changed, and facts of what the run leaves, as plain text.
+//! Tests of the command `batch`. A row has a list, a change of the run, and facts that the run leaves, as plain text.
 
 mod scene;
 mod tests;

@@ -1,6 +1,5 @@
-//! Tests of the cache on three stations, each of which may use channels 14 and 15, and no two of which may share one. The third
-//! one has the bit of the second, of those by which the cache looks, so that a set of one has to be looked into to tell that it
-//! lacks the other.
+//! Tests of the cache on three stations with channels 14 and 15. No two of the stations may share a channel. Stations 2 and `THIRD` set the
+//! same bit in the signature of a set. So the cache must read a set with one of them to see that the set lacks the other.
 
 use batch_cache::cache::Cache;
 use cert_types::answer::{Answer, Receipt, Refutation};
@@ -23,30 +22,30 @@ const THIRD: u32 = 1026;
 // A station on a channel.
 type Entry = (u32, u8);
 
-// What is done with the cache, under top channel 15 where none is named.
+// A call of the cache. The top channel is 15 unless the step names another.
 #[derive(Clone, Copy)]
 enum Step {
-    // Keeps the fit of a set that leaves these channels, of which all but the last one stand already.
+    // Keeps the fit of a set with these channels. All entries except the last one are the last map.
     Fit(&'static [u32], &'static [Entry]),
-    // Keeps the refutation of all three stations, of two lines.
+    // Keeps a refutation of all three stations, with two lines.
     Proof,
-    // Keeps the refutation of a set by a pair of stations 1 and 2 that have channel 14 alone.
+    // Keeps a refutation of a set by the dead pair of stations 1 and 2 on channel 14.
     Dead(&'static [u32]),
-    // Keeps a spent budget of no line for a set.
+    // Keeps a spent budget with no lines for a set.
     Spent(&'static [u32]),
-    // Asks about a set for a worker that learns, with a budget of two lines, of one, or of none for a walk; under top 16.
+    // Asks about a set: for a learner with a budget of two lines, a learner with one, a walker, and under top channel 16.
     Ask(&'static [u32], Want),
     AskOfOneLine(&'static [u32], Want),
     AskOfWalk(&'static [u32], Want),
     AskOfTop16(&'static [u32], Want),
-    // The same of what is suggested, and not looked into: for a worker that learns while these channels stand, and so on.
+    // Asks for a suggestion, which the cache does not check. The cases are the same; the first one has a last map.
     Suggest(&'static [u32], &'static [Entry], Want),
     SuggestOneLine(&'static [u32], Want),
     SuggestToWalk(&'static [u32], Want),
     SuggestOfTop16(&'static [u32], Want),
 }
 
-// What is to be answered.
+// The expected answer.
 #[derive(Clone, Copy)]
 enum Want {
     Nothing,
@@ -55,7 +54,7 @@ enum Want {
     Dead,
 }
 
-// A station that may use these channels.
+// Returns a station with these channels.
 fn station_on(alloc: Global, station: u32, channels: &[u8]) -> Result<Domain, NoMemory> {
     let channels = Items::from_vec(Vec::from_slice(alloc, channels)?);
     Ok(Domain { station, channels })
@@ -65,7 +64,7 @@ fn on_one(f: u32, g: u32, c: u8) -> Pair {
     Pair { f, a: c, g, b: c }
 }
 
-// The three stations, where all have these channels.
+// Returns the book of the three stations, each with these channels.
 fn three_stations(alloc: Global, channels: &[u8]) -> Result<Book, NoMemory> {
     let domains = [
         station_on(alloc, 1, channels)?,
@@ -83,7 +82,7 @@ fn three_stations(alloc: Global, channels: &[u8]) -> Result<Book, NoMemory> {
     Book::build(alloc, 15, &[1, 2, THIRD], &domains, &pairs)
 }
 
-// The map of these entries.
+// Returns the map of these entries.
 fn map_of(alloc: Global, entries: &[Entry]) -> Result<ChannelMap, NoMemory> {
     let mut map = ChannelMap::of(alloc, &[])?;
     for entry in entries {
@@ -92,7 +91,7 @@ fn map_of(alloc: Global, entries: &[Entry]) -> Result<ChannelMap, NoMemory> {
     Ok(map)
 }
 
-// The test of a set, while these channels stand.
+// Returns the test of a set, with this last map.
 fn task_of(alloc: Global, set: &[u32], last: &[Entry]) -> Result<Task, NoMemory> {
     Ok(Task {
         number: 1,
@@ -103,7 +102,7 @@ fn task_of(alloc: Global, set: &[u32], last: &[Entry]) -> Result<Task, NoMemory>
     })
 }
 
-// The line 13 -1 0 7 2 8 3 12 0, and 14 0 13 1 9 2 10 3 11 0.
+// Returns the lines 13 -1 0 7 2 8 3 12 0 and 14 0 13 1 9 2 10 3 11 0.
 fn two_lines(alloc: Global) -> Result<Log, NoMemory> {
     let mut lines = Lines::new(alloc);
     let not_one = Lit {
@@ -115,7 +114,7 @@ fn two_lines(alloc: Global) -> Result<Log, NoMemory> {
     Ok(Log { lines })
 }
 
-// Puts an answer to the test of a set, while these channels stand.
+// Puts an answer to the test of a set, with this last map.
 fn keep(
     alloc: Global,
     cache: &mut Cache,
@@ -162,7 +161,7 @@ fn worker(kind: Kind, budget: u32) -> Worker {
     }
 }
 
-// Whether the cache answers so.
+// Checks whether the cache gives the expected answer.
 fn answers(
     alloc: Global,
     cache: &mut Cache,
@@ -180,7 +179,7 @@ fn answers(
     Ok(is_wanted(&answer, want))
 }
 
-// Whether the cache suggests so for the test of a set, while these channels stand.
+// Checks whether the cache makes the expected suggestion for the test of a set, with this last map.
 fn suggests(
     alloc: Global,
     cache: &mut Cache,
@@ -220,7 +219,7 @@ fn is_refutation(refutation: &Refutation, want: Want) -> bool {
     }
 }
 
-// Whether a step goes as it should.
+// Runs a step. Returns whether its answer is the expected one.
 fn goes(alloc: Global, cache: &mut Cache, book: &Book, step: Step) -> Result<bool, NoMemory> {
     let learner = worker(Kind::Cdcl, 2);
     match step {
@@ -257,7 +256,7 @@ fn goes(alloc: Global, cache: &mut Cache, book: &Book, step: Step) -> Result<boo
     Ok(true)
 }
 
-// The place from 0 of the first step that doesn't go as it should, in a cache with so much room.
+// Returns the index of the first step with another answer, in a cache with this room.
 fn first_wrong(
     alloc: Global,
     channels: &[u8],
@@ -288,7 +287,7 @@ fn answers_by_what_is_kept(rt: HostRuntime) -> Result<(), Fail> {
         Step::Ask(&[2], Want::Fit(&[(2, 14)])),
         Step::AskOfWalk(&[1], Want::Fit(&[(1, 15)])),
         Step::AskOfTop16(&[1, 2], NOTHING),
-        // Only the channels are suggested that stand otherwise, of the stations of the set.
+        // A suggestion has only the channels that differ from the last map, for stations of the set.
         Step::Suggest(&[1, 2], &[], Want::Fit(&[(1, 15), (2, 14)])),
         Step::Suggest(&[1, 2], &[(1, 15)], Want::Fit(&[(2, 14)])),
         Step::Suggest(&[1, 2], &[(1, 14)], Want::Fit(&[(1, 15), (2, 14)])),
@@ -311,13 +310,13 @@ fn answers_by_what_is_kept(rt: HostRuntime) -> Result<(), Fail> {
         Step::SuggestToWalk(ALL, NOTHING),
         Step::SuggestOfTop16(ALL, NOTHING),
         Step::Ask(&[1, 2], Want::Fit(&[(1, 15), (2, 14)])),
-        // Under the same key another map, whose whole is no fit and whose parts are.
+        // Another map under the same key, which is valid for each station alone but not for both.
         Step::Fit(&[1, 2], &[(1, 15), (2, 15)]),
         Step::Ask(&[1, 2], NOTHING),
         Step::Ask(&[2], Want::Fit(&[(2, 15)])),
-        // What is suggested need not be valid.
+        // A suggestion need not be valid.
         Step::Suggest(&[1, 2], &[], Want::Fit(&[(1, 15), (2, 15)])),
-        // No dead pair, where each of its stations has two channels; nor is the proof there any more.
+        // The pair is not dead, because each of its stations has two channels. The pair has replaced the proof.
         Step::Dead(ALL),
         Step::Ask(ALL, NOTHING),
         Step::Suggest(ALL, &[], Want::Dead),
@@ -345,7 +344,7 @@ fn answers_by_a_dead_pair(rt: HostRuntime) -> Result<(), Fail> {
 fn the_least_recently_used_goes(rt: HostRuntime) -> Result<(), Fail> {
     const ONE: &[Step] = &[
         Step::Fit(&[1, 2], &[(1, 15), (2, 14)]),
-        // Maps and refutations have room of their own.
+        // Maps and refutations have separate room.
         Step::Proof,
         Step::Ask(&[1, 2], Want::Fit(&[(1, 15), (2, 14)])),
         Step::Fit(&[1, THIRD], &[(1, 15), (THIRD, 14)]),
@@ -357,26 +356,26 @@ fn the_least_recently_used_goes(rt: HostRuntime) -> Result<(), Fail> {
     const TWO: &[Step] = &[
         Step::Fit(&[1, 2], &[(1, 15), (2, 14)]),
         Step::Fit(&[1, THIRD], &[(1, 14), (THIRD, 15)]),
-        // Of two that answer the one that was used last does.
+        // Of two maps that answer, the last used one does.
         Step::Ask(&[1], Want::Fit(&[(1, 14)])),
         Step::Ask(&[2], Want::Fit(&[(2, 14)])),
         Step::Ask(&[1], Want::Fit(&[(1, 15)])),
-        // So does of two that may be suggested.
+        // The same holds for suggestions.
         Step::Suggest(&[THIRD], &[], Want::Fit(&[(THIRD, 15)])),
         Step::Suggest(&[1], &[], Want::Fit(&[(1, 14)])),
         Step::Suggest(&[2], &[], Want::Fit(&[(2, 14)])),
         Step::Suggest(&[1], &[], Want::Fit(&[(1, 15)])),
-        // The one that answered stays, and the other one goes.
+        // The map that answered last stays, and the other one is dropped.
         Step::Fit(&[2, THIRD], &[(2, 15), (THIRD, 14)]),
         Step::Ask(&[1, THIRD], NOTHING),
         Step::Ask(&[1, 2], Want::Fit(&[(1, 15), (2, 14)])),
         Step::Ask(&[2, THIRD], Want::Fit(&[(2, 15), (THIRD, 14)])),
-        // One that is put again under its key stands first.
+        // A map that is put again under its key counts as the last used one.
         Step::Fit(&[1, 2], &[(1, 14), (2, 15)]),
         Step::Fit(&[THIRD], &[(THIRD, 15)]),
         Step::Ask(&[2, THIRD], NOTHING),
         Step::Ask(&[1, 2], Want::Fit(&[(1, 14), (2, 15)])),
-        // The one that was used last lacks the station that is asked about, and the other one has it.
+        // The last used map lacks the station of the question; the other map has it.
         Step::Fit(&[1, THIRD], &[(1, 15), (THIRD, 14)]),
         Step::Ask(&[1, 2], Want::Fit(&[(1, 14), (2, 15)])),
         Step::Ask(&[2], Want::Fit(&[(2, 15)])),

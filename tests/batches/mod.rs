@@ -1,4 +1,4 @@
-//! Batches: runs of the whole program over the scenarios of a list, in memory.
+//! Batches: runs of the complete program in memory over the scenarios of a list, and the cache of answers.
 
 mod batches;
 mod caches;

@@ -1,4 +1,4 @@
-//! A book for the tests.
+//! A book for these tests.
 
 use pack_defs::book::Book;
 use pack_defs::domain::Domain;
@@ -6,18 +6,18 @@ use pack_defs::items::Items;
 use pack_defs::pair::Pair;
 use std::alloc::{AllocError as NoMemory, Global};
 
-// A station that may use channels 14 and 15.
+// Returns a station with channels 14 and 15.
 pub(crate) fn on_both(alloc: Global, station: u32) -> Result<Domain, NoMemory> {
     let channels = Items::from_vec(Vec::from_slice(alloc, &[14, 15])?);
     Ok(Domain { station, channels })
 }
 
-// Two stations that may not share this channel.
+// Returns a pair of stations that may not share this channel.
 pub(crate) fn on_one(f: u32, g: u32, c: u8) -> Pair {
     Pair { f, a: c, g, b: c }
 }
 
-// Three stations on two channels, of which no two may share one.
+// Returns a book of three stations on two channels; no two stations may share a channel.
 pub(crate) fn three_stations(alloc: Global) -> Result<Book, NoMemory> {
     let domains = [on_both(alloc, 1)?, on_both(alloc, 2)?, on_both(alloc, 3)?];
     let pairs = [

@@ -10,7 +10,7 @@ fn pairs_of_the_changed_stations_are_looked_at(rt: HostRuntime) -> Result<(), Fa
     let last = ChannelMap::of(alloc, &[(1, 14), (2, 15)])?;
     let cases: [(&[(u32, u8)], bool); 7] = [
         (&[], false),
-        // A pair from the changed station, one to it, and one of two changed stations.
+        // A pair from the changed station, a pair to the changed station, and a pair of two changed stations.
         (&[(1, 15)], true),
         (&[(2, 14)], true),
         (&[(1, 16), (3, 14)], false),
@@ -22,7 +22,7 @@ fn pairs_of_the_changed_stations_are_looked_at(rt: HostRuntime) -> Result<(), Fa
         let changes = ChannelMap::of(alloc, changes)?;
         assert_eq!(rt; violates_at_some(&book, &last, &changes), want);
     }
-    // What was violated before is not looked at.
+    // A pair that was violated before the changes is not checked.
     let last = ChannelMap::of(alloc, &[(1, 14), (2, 14)])?;
     let changes = ChannelMap::of(alloc, &[(3, 15)])?;
     assert!(rt; !violates_at_some(&book, &last, &changes));

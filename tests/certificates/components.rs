@@ -1,4 +1,4 @@
-//! Tests of components.
+//! `component` returns the stations of a set that are connected to a station by pairs.
 
 use pack_defs::book::Book;
 use pack_defs::domain::Domain;
@@ -9,23 +9,23 @@ use packing_graph::station_set::StationSet;
 use std::alloc::{AllocError, Global};
 use std::test::Fail;
 
-// A station that may use channels 14 and 15.
+// Returns a station with channels 14 and 15.
 fn on_two(alloc: Global, station: u32) -> Result<Domain, AllocError> {
     let channels = Items::from_vec(Vec::from_slice(alloc, &[14, 15])?);
     Ok(Domain { station, channels })
 }
 
-// Two stations that may not both use channel 14.
+// Returns a pair of stations that may not both use channel 14.
 fn apart(f: u32, g: u32) -> Pair {
     Pair { f, a: 14, g, b: 14 }
 }
 
-// Two stations of which the first may not use channel 14 where the second uses channel 15.
+// Returns a pair of stations: the first may not use channel 14 while the second uses channel 15.
 fn apart_across(f: u32, g: u32) -> Pair {
     Pair { f, a: 14, g, b: 15 }
 }
 
-// Four stations with these pairs.
+// Returns a book of four stations with these pairs.
 fn four_stations(alloc: Global, pairs: &[Pair]) -> Result<Book, AllocError> {
     let domains = [
         on_two(alloc, 1)?,
@@ -84,7 +84,7 @@ fn joined_by_a_pair_across_channels(rt: HostRuntime) -> Result<(), Fail> {
     Ok(())
 }
 
-// The stations below 5 whose place is marked.
+// The stations below 5 that are marked at their index.
 #[derive(Drop)]
 struct Marks {
     marks: [bool; 5],

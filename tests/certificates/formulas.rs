@@ -1,4 +1,4 @@
-//! The tests of the packing formula and of the map of a model.
+//! Tests of the packing formula and of the channel map of a model.
 
 use clause_db::list::ClauseList;
 use clause_db::lit::Lit;
@@ -13,7 +13,7 @@ use pack_defs::pair::Pair;
 use std::alloc::{AllocError, Global};
 use std::test::Fail;
 
-// A station that may use these channels.
+// Returns a station with these channels.
 fn on(alloc: Global, station: u32, channels: &[u8]) -> Result<Domain, AllocError> {
     let channels = Items::from_vec(Vec::from_slice(alloc, channels)?);
     Ok(Domain { station, channels })
@@ -23,7 +23,7 @@ fn pair(f: u32, a: u8, g: u32, b: u8) -> Pair {
     Pair { f, a, g, b }
 }
 
-// Three stations on two channels, of which no two may share one.
+// Returns a book of three stations on two channels; no two stations may share a channel.
 fn three_stations(alloc: Global) -> Result<Book, AllocError> {
     let domains = [
         on(alloc, 1, &[14, 15])?,
@@ -41,7 +41,7 @@ fn three_stations(alloc: Global) -> Result<Book, AllocError> {
     Book::build(alloc, 15, &[1, 2, 3], &domains, &pairs)
 }
 
-// A literal as DIMACS CNF writes it: its variable, or the variable's negative.
+// Returns a literal as in DIMACS CNF: its variable, negative for a negated one.
 fn number_of(lit: Lit) -> i64 {
     let var = i64::try_from(lit.var).unwrap_or(0);
     if lit.positive {
@@ -51,7 +51,7 @@ fn number_of(lit: Lit) -> i64 {
     }
 }
 
-// The clauses as DIMACS CNF writes them: the literals of each, and a 0.
+// Returns the clauses as in DIMACS CNF: the literals of each, and a 0.
 fn numbers_of(alloc: Global, formula: &ClauseList) -> Result<Vec<i64>, AllocError> {
     let mut numbers = Vec::new(alloc);
     for i in 0..formula.len() {
@@ -125,7 +125,7 @@ fn pairs_to_another_station_are_left_out(rt: HostRuntime) -> Result<(), Fail> {
     Ok(())
 }
 
-// Five stations with domains of their own, and pairs across channels; station 3 may use none.
+// Returns a book of five stations with different domains, and pairs across channels. Station 3 has no channel.
 fn five_stations(alloc: Global) -> Result<Book, AllocError> {
     let domains = [
         on(alloc, 1, &[14])?,
@@ -167,7 +167,7 @@ fn station_without_a_channel(rt: HostRuntime) -> Result<(), Fail> {
     Ok(())
 }
 
-// Sets of those five stations, with one that isn't there, and how many clauses their formulas have.
+// Sets of the five stations and of station 9, which is not in the book, and how many clauses their formulas have.
 const COUNTED: &[(&[u32], u64)] = &[
     (&[], 0),
     (&[3], 1),

@@ -1,4 +1,4 @@
-//! Certificates: clauses, formulas and proof logs, the first fault of a channel map, and the component of a station.
+//! Tests of certificates: clauses, formulas and proof logs, the first error of a channel map, and the component of a station.
 mod assignments;
 mod books;
 mod changes;

@@ -1,4 +1,4 @@
-//! Tests of the check, over the formula of the three stations.
+//! Tests of the check of lines and logs, over the formula of three stations.
 
 use clause_db::list::ClauseList;
 use clause_db::lit::Lit;
@@ -10,7 +10,7 @@ use rup_check::{LineErr, LogErr};
 use std::alloc::{AllocError as NoMemory, Global};
 use std::test::Fail;
 
-// Literals by DIMACS numbers, a negative one for the opposite.
+// Returns literals by DIMACS numbers; a negative number is a negated literal.
 fn lits(alloc: Global, numbers: &[i64]) -> Result<Vec<Lit>, NoMemory> {
     let mut lits = Vec::new(alloc);
     for number in numbers {
@@ -37,7 +37,7 @@ fn log(alloc: Global, lines: &[Line]) -> Result<Log, NoMemory> {
     Ok(Log { lines: packed })
 }
 
-// Three stations on two channels, each two of which interfere on each.
+// Returns the formula of three stations on two channels; no two stations may share a channel.
 fn three_stations(alloc: Global) -> Result<ClauseList, NoMemory> {
     let mut clauses = ClauseList::new(alloc, 6);
     for two in [
@@ -59,7 +59,7 @@ fn three_stations(alloc: Global) -> Result<ClauseList, NoMemory> {
     Ok(clauses)
 }
 
-// What `check_line` answers over these clauses.
+// Returns what `check_line` answers over these clauses.
 fn answer(
     alloc: Global,
     clauses: &ClauseList,
@@ -181,7 +181,7 @@ fn clauses_of_variables_past_the_last(rt: HostRuntime) -> Result<(), Fail> {
     Ok(())
 }
 
-// Lines of these hints, each with one literal, by the DIMACS number of its place.
+// Returns lines with one literal and one hint each. The literals are DIMACS numbers.
 fn lines_of(alloc: Global, numbers: &[i64], hints: &[u64]) -> Result<Lines, NoMemory> {
     let mut lines = Lines::new(alloc);
     for i in 0..numbers.len().min(hints.len()) {
@@ -191,7 +191,7 @@ fn lines_of(alloc: Global, numbers: &[i64], hints: &[u64]) -> Result<Lines, NoMe
     Ok(lines)
 }
 
-// Whether the line at a place has one literal, of this DIMACS number, and this hint alone.
+// Checks whether the line at a place has exactly this literal, as a DIMACS number, and this hint.
 fn is_there(lines: &Lines, place: usize, number: i64, hint: u64) -> bool {
     if place >= lines.len() {
         return false;

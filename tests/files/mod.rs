@@ -1,4 +1,4 @@
-//! Books and maps, folders and sinks, the readers of the files that an auction is given, and auctions that are made.
+//! Tests of books and maps, of folders and sinks, of the readers of an auction's input files, and of generated auctions.
 
 mod books;
 mod constraints;

@@ -1,7 +1,7 @@
 use super::*;
 
 impl Grid {
-    /// So many stations from 0, on so many channels from 14, no two of which may share one.
+    /// Returns a grid of stations numbered from 0, on channels from 14. No two stations may share a channel.
     pub(crate) fn crowded(alloc: Global, stations: u32, channels: u8) -> Result<Grid, NoMemory> {
         let mut grid = Grid::empty(alloc, 51, 0);
         for place in 0..stations {
@@ -20,7 +20,7 @@ impl Grid {
         Ok(grid)
     }
 
-    // The rivals of a station's channel are the same channel of all others.
+    // Adds one channel of a station. Its rivals are the same channel of all other stations.
     fn add_column(
         &mut self,
         place: u32,

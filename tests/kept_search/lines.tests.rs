@@ -1,8 +1,8 @@
 use super::*;
 use std::test::Fail;
 
-// The hints of lines by number; each has the literal of its number. Then whether it is held after a sweep in which line 5
-// is needed, and after another one in which line 8 is, which comes in between. Line 6 is a fact.
+// The hints of each line; its one literal is its number. Then whether the line is held after a sweep that needs line 5, and after a later
+// sweep that needs line 8. Line 8 is added between the sweeps, and line 6 is a fact.
 const LINES: &[(&[Hint], bool, bool)] = &[
     (&[Hint::Own(3)], true, false),
     (&[Hint::Line(0), Hint::Pair { v: 2, w: 5 }], true, false),
@@ -32,7 +32,7 @@ fn sweep(alloc: Global, lines: &mut KeptLines, line: u32) -> Result<(), NoMemory
     lines.sweep(alloc, &mut needed)
 }
 
-// Whether a line has these hints and the literal of its number, or nothing where it is not held.
+// Checks whether a line has these hints and the literal of its number, or nothing if the line is not held.
 fn is_line(
     alloc: Global,
     lines: &KeptLines,

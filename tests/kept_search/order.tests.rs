@@ -1,7 +1,7 @@
 use super::*;
 use std::test::Fail;
 
-// The variables of an order of eight as they come, where these two are met, the second after an ageing.
+// Returns eight variables in the order in which they are taken. The first of two is raised before an ageing, and the second after it.
 fn taken(alloc: Global, first: u32, second: u32) -> Result<[u32; 8], NoMemory> {
     let mut order = ActivityOrder::new(alloc, 8, 0.5)?;
     for var in 1..=8 {

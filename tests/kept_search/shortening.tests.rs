@@ -2,8 +2,8 @@ use super::*;
 use crate::policy::USUAL;
 use std::test::Fail;
 
-// An engine over ten stations, any five of which are one too many, that takes so many lines for what refutes a station beside
-// the four before it.
+// Returns an engine over ten stations; no five of them fit. Its known disproof has this many lines, and is of the five stations from
+// `first`. The last of these is the tested one.
 fn known(alloc: Global, first: u32, lines: u32) -> Result<Engine, NoMemory> {
     let mut engine = Engine::new(alloc, Grid::crowded(alloc, 10, 4)?, USUAL)?;
     engine.tested = first.saturating_add(4);
@@ -16,7 +16,7 @@ fn known(alloc: Global, first: u32, lines: u32) -> Result<Engine, NoMemory> {
     Ok(engine)
 }
 
-// What the search comes to for fewer lines than so many.
+// Searches for a disproof with fewer than this many lines. Returns the outcome and the engine, or `None` if the search does not end.
 fn ended(alloc: Global, lines: u32) -> Result<Option<(Option<Disproof>, Engine)>, NoMemory> {
     let known = known(alloc, 0, lines)?;
     let mut shortening = Shortening::begin(alloc, &known, None, 1000)?;
@@ -43,7 +43,7 @@ fn the_shorter_log_is_said(rt: HostRuntime) -> Result<(), Fail> {
 
 #[test]
 fn what_a_crowd_showed_is_kept_for_it_alone(rt: HostRuntime) -> Result<(), Fail> {
-    // Of the four stations from these on, none, one, two and all are new.
+    // Of the four untested stations from `first`, none, one, two or all are new to the engine of the crowd.
     for (first, is_kept) in [(0, true), (1, true), (2, false), (5, false)] {
         let crowd = ended(rt.alloc(), 500)?.ok_or("no end")?.1;
         let known = known(rt.alloc(), first, 500)?;

@@ -6,9 +6,9 @@ use crate::play::NOWHERE;
 use crate::policy::USUAL;
 use std::test::Fail;
 
-// Of a line the codes of its literals, of how many levels they are, how much it was used, and what is left of it. Of the
-// six that may be dropped three are, the least used; not those of few levels or of two literals. The variable 23 is true,
-// and station 0, which the variable 24 says to be in the set, is on air.
+// For each line: the codes of its literals, its levels, its use, and the literals that remain. Six lines may be dropped, and the three
+// least used of them are. Lines of few levels or two literals stay. Variable 23 is true and satisfies a line. Variable 24 says that station
+// 0 is in the set, and station 0 is on air.
 const LINES: &[(&[u32], u32, f64, &[u32])] = &[
     (&[8, 11, 12], 5, 4.0, &[8, 11, 12]),
     (&[9, 12, 15, 16], 6, 1.0, &[]),
@@ -21,7 +21,7 @@ const LINES: &[(&[u32], u32, f64, &[u32])] = &[
     (&[16, 19, 22, 24], 8, 2.0, &[]),
 ];
 
-// An engine of six stations on four channels that has these lines and the own clause of station 0, and thinned them out.
+// Returns an engine of six stations on four channels with these lines and the own clause of station 0, after thinning.
 fn thinned(alloc: Global) -> Result<Engine, NoMemory> {
     let mut engine = Engine::new(alloc, Grid::crowded(alloc, 6, 4)?, USUAL)?;
     engine.stand(0, NOWHERE)?;
@@ -40,7 +40,7 @@ fn thinned(alloc: Global) -> Result<Engine, NoMemory> {
     Ok(engine)
 }
 
-// Whether a clause is stored at this place with this name and these literals, of which the first two watch it.
+// Checks whether a clause is stored at this place with this name and these literals. Its first two literals must watch it.
 fn stands(alloc: Global, clauses: &mut KeptClauses, at: u32, name: Hint, codes: &[u32]) -> bool {
     if clauses.name(at) != name || clauses.codes(at) != codes || codes.len() < 2 {
         return false;
@@ -62,7 +62,7 @@ fn the_little_used_half_of_the_lines_goes(rt: HostRuntime) -> Result<(), Fail> {
     let mut engine = thinned(alloc)?;
     let own = stands(alloc, &mut engine.clauses, 0, Hint::Own(0), &[0, 2, 4, 6]);
     assert!(rt; own);
-    // Each clause takes two words beside its literals.
+    // Each clause takes two words besides its literals.
     let mut at: u32 = 6;
     let mut left: usize = 0;
     for (number, line) in LINES.iter().enumerate() {

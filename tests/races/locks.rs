@@ -1,4 +1,4 @@
-//! Threads that take turns at a list of numbers, passes that are used one after another, and locks that are closed.
+//! `TurnLock`: threads take turns at a list of numbers, passes are used one after another, and closing returns the value.
 
 use std::alloc::{AllocError as NoMemory, Global};
 use std::sync::Wait;
@@ -8,14 +8,15 @@ use std::thread::Threads;
 use turn_lock::lock::{Pass, TurnLock};
 use turn_lock::number_list::{NumberList, append};
 
-// A list with one number, of a pass that no lock here has, and room for so many more: no turn needs memory.
+// Returns a list with title 7 and the entry (9, 5). No lock here has a pass 9. Reserves room for `room` more entries, so that no turn needs
+// memory.
 fn five(alloc: Global, room: usize) -> Result<NumberList, NoMemory> {
     let mut numbers = Vec::with_capacity(alloc, room + 1)?;
     numbers.push((9, 5))?;
     Ok(NumberList { title: 7, numbers })
 }
 
-// What was added to a list that began as `five`.
+// Returns the entries that were added to a list from `five`, or `None` if its title or first entry changed.
 fn added(list: &NumberList) -> Option<&[(u64, u32)]> {
     let (first, added) = list.numbers.as_slice().split_first()?;
     if list.title == 7 && *first == (9, 5) {
@@ -24,7 +25,8 @@ fn added(list: &NumberList) -> Option<&[(u64, u32)]> {
     None
 }
 
-// Whether these are of each pass below `passes` the numbers below `each` in order, however the passes took turns, and no others.
+// Checks whether the entries are exactly the numbers below `each` from every pass below `passes`, in order for each pass. The passes may
+// take turns in any order.
 fn are_counts(added: &[(u64, u32)], passes: usize, each: u32) -> bool {
     let mut next = [0; 4];
     for (by, number) in added {
@@ -37,7 +39,7 @@ fn are_counts(added: &[(u64, u32)], passes: usize, each: u32) -> bool {
     next[..passes].iter().all(|count| *count == each)
 }
 
-// Adds numbers, each in a turn of its own.
+// Appends the numbers from `from` to `to`, one in each turn.
 fn add_all<R: Wait>(
     rt: &R,
     lock: &TurnLock<NumberList>,
@@ -50,7 +52,7 @@ fn add_all<R: Wait>(
     }
 }
 
-// Each pass adds the numbers below `each`, in a thread of its own.
+// Appends the numbers below `each` through every pass, each pass in its own thread.
 fn all_count<R: Threads + Wait + Sync>(
     rt: &R,
     lock: &TurnLock<NumberList>,
@@ -61,7 +63,7 @@ fn all_count<R: Threads + Wait + Sync>(
     thread::for_each_mut(rt, passes, 4, &part);
 }
 
-// Whether as many threads as passes, of which each adds the numbers below `each`, leave just these.
+// Checks whether threads that each append the numbers below `each` leave exactly these entries. Every pass has its own thread.
 fn threads_count<R: Threads + Wait + Sync>(
     rt: &R,
     alloc: Global,
@@ -84,7 +86,7 @@ fn threads_take_turns(rt: HostRuntime) -> Result<(), Fail> {
     Ok(())
 }
 
-// Adds numbers, each by the pass at its place.
+// Appends each number through the pass with its index.
 fn add_in_turn<R: Wait>(
     rt: &R,
     lock: &TurnLock<NumberList>,
@@ -100,7 +102,7 @@ fn add_in_turn<R: Wait>(
     }
 }
 
-// Whether three passes that are used in these turns, on one thread, leave just these numbers, in this order.
+// Checks whether three passes, used in these turns on one thread, leave exactly these entries in this order.
 fn passes_add<R: Wait>(rt: &R, alloc: Global, turns: &[(u64, u32)]) -> Result<bool, NoMemory> {
     let list = five(alloc, turns.len())?;
     let Ok((lock, mut passes)) = TurnLock::make(alloc, list, 3) else {
@@ -119,7 +121,7 @@ fn passes_are_used_one_after_another(rt: HostRuntime) -> Result<(), Fail> {
     Ok(())
 }
 
-// The value of a lock that is closed at once, or the one that comes back where there is no memory for the lock.
+// Returns the value of a lock that is closed at once. If memory for the lock runs out, returns the value that came back.
 fn there_and_back(alloc: Global, list: NumberList) -> NumberList {
     match TurnLock::make(alloc, list, 3) {
         Ok((lock, passes)) => lock.close(passes),
@@ -134,7 +136,7 @@ fn the_value_comes_back(rt: HostRuntime) -> Result<(), Fail> {
     Ok(())
 }
 
-// A pass that adds a number, and comes back.
+// Appends a number through the pass and returns the pass.
 fn add_there<R: Wait>(
     rt: &R,
     lock: &TurnLock<NumberList>,

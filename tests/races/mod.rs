@@ -1,4 +1,4 @@
-//! Boards that several passes post to, and auctions whose workers race.
+//! Tests of turn locks, of boards that several passes post to, and of auctions whose workers race.
 
 mod boards;
 mod locks;

@@ -1,3 +1,3 @@
-//! Auctions that go on from the beginning of a transcript: runs of the whole program, in memory.
+//! Auctions that continue from the beginning of a transcript, as runs of the whole program in memory.
 
 mod resumed;

@@ -1,5 +1,5 @@
-//! Tests of the command `resume`: a row has a scenario, the beginning of a transcript, what is changed, and facts of what the run
-//! leaves, as plain text.
+//! Tests of the command `resume`. A row has a scenario, the beginning of a transcript, a change, and the expected facts as plain
+//! text.
 
 mod scene;
 mod tests;

@@ -1,4 +1,4 @@
-"""Jobs that each run some tests as one process, and lanes in which they run side by side."""
+"""Jobs, each of which runs some tests as one process, and lanes that run jobs in parallel."""
 import concurrent.futures
 import itertools
 import os
@@ -8,15 +8,15 @@ import sys
 import time
 import typing
 
-# The memory that one build of a unit takes at most, in bytes, by measurement.
+# The most memory of one build of a unit, in bytes (measured).
 MEMORY_OF_A_BUILD = 3_500_000_000
-# How many lines of a job's output are shown of a failure that names no test.
+# The number of output lines shown for a failure without a test's name.
 LINES_SHOWN = 25
 
 
 class Result(typing.NamedTuple):
-    """What became of one test: its name, the name that `./test` runs it by, `passed`, `failed` or `skipped`, and why where it did not
-    pass."""
+    """The result of one test: its name, the name that `./test` runs it by, and `passed`, `failed` or `skipped`. `why` is the reason if it
+    did not pass."""
 
     name: str
     alone: str
@@ -25,8 +25,8 @@ class Result(typing.NamedTuple):
 
 
 class Job(typing.NamedTuple):
-    """A process that runs tests: its name, how long it takes beside the others, its words, its folder, and what reads the results
-    from what it printed and its status. A job without words runs nothing: `read` says why its tests are skipped."""
+    """A process that runs tests: its name, its relative duration, its command and its folder. `read` returns the results for the output
+    and the status. A job without a command runs nothing: `read` returns why its tests are skipped."""
 
     name: str
     weight: int
@@ -36,7 +36,7 @@ class Job(typing.NamedTuple):
 
 
 class Lanes:
-    """Runs jobs side by side, the longest first, and says how far they are."""
+    """Runs jobs in parallel, the longest first, and reports progress."""
 
     def __init__(self):
         self.running = set()
@@ -59,7 +59,7 @@ class Lanes:
         return results
 
     def one(self, job):
-        """Runs one job, and returns it with its results and how many seconds it took."""
+        """Runs one job, and returns the job with its results and its duration in seconds."""
         if self.stopped or not job.words:
             return job, job.read("", 0), 0
         begin = time.monotonic()
@@ -74,24 +74,24 @@ class Lanes:
         return job, job.read(printed, process.returncode), time.monotonic() - begin
 
     def stop(self):
-        """Ends what runs and begins nothing more."""
+        """Ends the running jobs and starts no more."""
         self.stopped = True
         for process in list(self.running):
             process.send_signal(signal.SIGTERM)
 
 
 def lanes():
-    """How many jobs run side by side: one a processor, as far as the memory that is free allows, and at least one."""
+    """Returns how many jobs run in parallel: one per processor, as far as the free memory allows, and at least one."""
     free = int(next(line for line in open("/proc/meminfo", encoding="ascii") if line.startswith("MemAvailable")).split()[1]) * 1024
     return max(1, min(len(os.sched_getaffinity(0)), free // MEMORY_OF_A_BUILD))
 
 
 def tell(job, results, seconds, place):
-    """Prints what became of a job's tests: their numbers on one line, then each that did not pass."""
+    """Prints the results of a job's tests: their numbers on one line, then each test that did not pass."""
     count = {outcome: sum(result.outcome == outcome for result in results) for outcome in ("passed", "failed", "skipped")}
     numbers = ", ".join(f"{number} {outcome}" for outcome, number in count.items() if number)
     print(f"{job.name}: {numbers or 'nothing'} in {seconds:.0f} s ({place})")
-    # Tests that failed for one reason, as that they were not built, are told together.
+    # Tests that failed for the same reason, such as a failed build, are printed together.
     for why, group in itertools.groupby((result for result in results if result.outcome == "failed"), key=lambda result: result.why):
         first, *others = group
         more = f" and {len(others)} more" if others else ""
@@ -101,5 +101,5 @@ def tell(job, results, seconds, place):
 
 
 def last_lines(printed):
-    """The end of what a job printed."""
+    """Returns the end of a job's output."""
     return "\n".join(printed.splitlines()[-LINES_SHOWN:])

@@ -8,11 +8,11 @@ import subprocess
 from jobs import Job, Result, last_lines
 from tree import TOP, units
 
-# The seconds that one test may take: those of large files are slow without optimization.
+# The most seconds for one test: tests of large files are slow without optimization.
 SECONDS = 900
 # The seed and the number of the runs of `tests/search/hostile`.
 HOSTILE = ("--seed", "57", "--runs", "1500", "--jobs", "1")
-# Where the shell scripts are, beside `repack`.
+# The folders of the shell scripts, besides `repack`.
 FOLDERS_OF_SCRIPTS = (".ci", "release", "tests", "tests/search", "benchmarks/time")
 NO_PROGRAM = "no program of these sources is built; ./repack --version builds it"
 NO_RT = "the toolchain's command rt is not on the path"
@@ -23,7 +23,7 @@ GROWTHS = re.compile(r"^(.*): (\d+) growths.*, (\d+) otherwise$", re.M)
 
 
 def names():
-    """Each subject with the number of its tests, or None where only a run tells it."""
+    """Returns each subject with its number of tests, or `None` if only a run shows the number."""
     found = {}
     for unit in units():
         for test in unit.tests:
@@ -34,36 +34,36 @@ def names():
 
 
 def subject_of(unit, test):
-    """The subject of a test: the folder of `tests/` that it stands in."""
+    """Returns the subject of a test: its folder in `tests/`."""
     return test.split("::")[0] if unit.folders else unit.name
 
 
 def name_in(unit, test):
-    """The name of a test with its subject in front."""
+    """Returns the name of a test with its subject in front."""
     return test if unit.folders else f"{unit.name}::{test}"
 
 
 def is_of(name, wanted):
-    """Whether a test is one of those that a word names: a subject, a module below it, or a test, of which the middle may be left out."""
+    """Checks whether `wanted` names a test: a subject, a module below a subject, or a test, whose middle part may be omitted."""
     subject, _, rest = wanted.partition("::")
     return name == wanted or name.startswith(wanted + "::") or bool(rest) and name.startswith(subject + "::") and name.endswith("::" + rest)
 
 
 def tests_of(wanted):
-    """The whole names of the tests that the words name."""
+    """Returns the complete names of the tests that the words name."""
     return [name_in(unit, test) for unit in units() for test in unit.tests if any(is_of(name_in(unit, test), word) for word in wanted)]
 
 
 def like(word):
-    """What is named much like a word, as the end of a sentence."""
+    """Returns the name most similar to a word, as the end of a sentence."""
     known = [*names(), *(name_in(unit, test) for unit in units() for test in unit.tests)]
     found = difflib.get_close_matches(word, known, 1)
     return f" (is it {found[0]}?)" if found else ""
 
 
 def jobs_of(copy, wanted):
-    """The jobs that run the wanted subjects, modules and tests, or all where none is named; and the words that name none.
-    `copy` lays the tree with its tests and returns its folder."""
+    """Returns the jobs of the wanted subjects, modules and tests, or all jobs if none is wanted, and the words that name nothing.
+    `copy` makes a copy of the tree with its tests and returns the copy's folder."""
     found, unknown = [], set(wanted)
     for unit in units():
         own = [test for test in unit.tests if not wanted or any(is_of(name_in(unit, test), word) for word in wanted)]
@@ -77,10 +77,10 @@ def jobs_of(copy, wanted):
 
 
 def unit_job(copy, unit, own):
-    """The job that builds a unit and runs these of its tests."""
+    """Returns the job that builds a unit and runs these of its tests."""
     if not shutil.which("rt"):
         return Job(unit.name, 0, (), str(TOP), lambda printed, status: [skipped(name_in(unit, test), NO_RT) for test in own])
-    # A single filter is passed on; the program knows no more than one.
+    # The test program accepts at most one filter.
     alone = own if len(own) == 1 else ()
     path = f"PATH={TOP / 'tests' / 'runner' / 'bin'}:{os.environ['PATH']}"
     words = ("env", path, "rt", "try", "--test", "--steps", "1", "--seconds", str(SECONDS), *(["--", *alone] if alone else []))
@@ -89,7 +89,7 @@ def unit_job(copy, unit, own):
 
 
 def results_of(unit, own, printed):
-    """The results of a unit's tests by what its run printed. A test that it doesn't name has failed."""
+    """Returns the results of a unit's tests from the output of its run. A test that the output lacks has failed."""
     told = {test: (outcome, why) for test, outcome, why in ENDED.findall(printed)}
     lost = f"{unit.name} ended before this test:\n{last_lines(printed)}" if told else f"{unit.name} was not built:\n{last_lines(printed)}"
     results = []
@@ -101,7 +101,7 @@ def results_of(unit, own, printed):
 
 
 def in_tests(unit, line):
-    """A line of the toolchain's with the sources of the copy by the names that they have in `tests/`."""
+    """Returns a line of the toolchain with the copy's source names replaced by their names in `tests/`."""
     if not unit.folders:
         return re.sub(r"\bsrc/([\w/]+)/tests\.rt\b", rf"tests/{unit.name}/\1.tests.rs", line)
     line = re.sub(r"\bsrc/(\w+)\.rt\b", r"tests/\1/mod.rs", line)
@@ -109,35 +109,35 @@ def in_tests(unit, line):
 
 
 def skipped(name, why):
-    """The result of a test that isn't run."""
+    """Returns the result of a skipped test."""
     return Result(name, name, "skipped", why)
 
 
 def by_status(name):
-    """What reads the result of a job that is one test: it passes by status 0."""
+    """Returns the reader of a job with a single test, which passes if the status is 0."""
     return lambda printed, status: [Result(name, name.split(":")[0], "failed" if status else "passed", last_lines(printed))]
 
 
 def has_program():
-    """Whether there is a program of these sources, the release's or one that was built."""
+    """Checks whether a program of these sources exists, released or built."""
     own = {"REPACK_BUILD": "0", "PATH": "/usr/bin:/bin"}
     return subprocess.run([TOP / "release" / "find"], env=own, capture_output=True, check=False).returncode == 0
 
 
 def program_job(name, weight, words, read):
-    """A job that needs the program."""
+    """Returns a job that needs the program."""
     if not has_program():
         return Job(name, 0, (), str(TOP), lambda printed, status: [skipped(name, NO_PROGRAM)])
     return Job(name, weight, words, str(TOP), read)
 
 
 def plain_job(name, weight, words, read):
-    """A job that needs no program."""
+    """Returns a job that needs no program."""
     return Job(name, weight, words, str(TOP), read)
 
 
 def cases(name, weight, script, make=program_job):
-    """The job of a script that prints `ok NAME` or `FAILED NAME` of each case, and then, four spaces in, why it failed."""
+    """Returns the job of a script that prints `ok NAME` or `FAILED NAME` for each case, and then the reasons, indented by four."""
 
     def read(printed, status):
         found = [Result(f"{name}: {case}", name, "passed" if word == "ok" else "failed", why) for word, case, why in CASE.findall(printed)]
@@ -148,12 +148,12 @@ def cases(name, weight, script, make=program_job):
 
 
 def memory():
-    """The job that refuses each growth of the program's memory."""
+    """Returns the job that refuses each growth of the program's memory."""
 
     def read(printed, status):
         found = []
         for name, growths, otherwise in GROWTHS.findall(printed):
-            # Of a program whose growths aren't seen none is refused.
+            # If no growth is counted, none was refused.
             is_good = int(growths) > 0 and int(otherwise) == 0
             found.append(Result(f"memory: {name}", "memory", "passed" if is_good else "failed", last_lines(printed)))
         is_told = status == 0 or any(result.outcome == "failed" for result in found)
@@ -163,30 +163,30 @@ def memory():
 
 
 def hostile():
-    """The job that runs the program on hostile words and files."""
+    """Returns the job that runs the program on hostile words and files."""
     return program_job("hostile", 80, ("tests/search/hostile", *HOSTILE), by_status("hostile"))
 
 
 def mutants():
-    """The job that looks whether each manual mutant can still be made."""
+    """Returns the job that checks whether each manual mutant still applies."""
     return Job("mutants", 1, ("tests/mutants",), str(TOP), by_status("mutants"))
 
 
 def shell_scripts():
-    """The shell scripts of the repository."""
+    """Returns the shell scripts of the repository."""
     places = [TOP / "repack", *(place for folder in FOLDERS_OF_SCRIPTS for place in sorted((TOP / folder).iterdir()))]
     return [place for place in places if place.is_file() and place.read_bytes().startswith(b"#!/bin/sh")]
 
 
 def script_job(script):
-    """The job that looks a shell script over."""
+    """Returns the job that checks a shell script."""
     name = f"scripts: {script.relative_to(TOP)}"
     if not shutil.which("shellcheck"):
         return Job(name, 0, (), str(TOP), lambda printed, status: [skipped(name, NO_SHELLCHECK)])
     return Job(name, 1, ("shellcheck", str(script)), str(TOP), by_status(name))
 
 
-# What is run beside the units, by subject.
+# The subjects besides the units.
 OTHERS = {
     "examples": lambda: [cases("examples", 50, "tests/examples")],
     "launcher": lambda: [cases("launcher", 55, "tests/launcher")],

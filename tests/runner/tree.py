@@ -1,9 +1,9 @@
-"""Where the tests stand, and a copy of the tree with the tests in it, as the toolchain wants them.
+"""The tests' sources, and a copy of the tree that has the tests where the toolchain expects them.
 
-The gate refuses a `.rt` file outside a crate, so tests are written as `.rs`. In the copy:
+The gate rejects a `.rt` file outside a crate, and so tests are written as `.rs`. In the copy:
 
-- each line of `tests/units.txt` becomes a crate, with a module for each of its folders: `tests/FOLDER/mod.rs` is
-  `src/FOLDER.rt`, and `tests/FOLDER/a/b.rs` is `src/FOLDER/a/b.rt`;
+- each line of `tests/units.txt` becomes a crate, with a module for each of its folders. `tests/FOLDER/mod.rs` becomes
+  `src/FOLDER.rt`, and `tests/FOLDER/a/b.rs` becomes `src/FOLDER/a/b.rt`;
 - `tests/CRATE/a/b.tests.rs` becomes the module `tests` of the crate's own module `a::b`.
 """
 import pathlib
@@ -17,8 +17,8 @@ TEST = re.compile(r"^#\[test\]\s*\n(?:\s*#\[.*\]\s*\n)*\s*(?:pub )?fn (\w+)", re
 
 
 class Unit(typing.NamedTuple):
-    """What is built and run as one program: its crate in the copy, its own folders of `tests/` (none where it tests the inside of a
-    product's crate), the crates that they call, and the names of its tests as the program prints them."""
+    """A program that is built and run: its crate in the copy, its folders of `tests/`, and the crates that they call. `tests` are the
+    names of its tests as the program prints them. A unit for the inside of a product's crate has no folders."""
 
     name: str
     folders: tuple
@@ -27,18 +27,18 @@ class Unit(typing.NamedTuple):
 
 
 def names_in(source, path):
-    """The tests in a source that is the module `path`, by their whole names."""
+    """Returns the complete names of the tests in a source that is the module `path`."""
     return [f"{path}::{name}" for name in TEST.findall(source.read_text(encoding="utf-8"))]
 
 
 def path_of(source, folder):
-    """The module that a source of a folder is: `a/b.rs` is `a::b`, and `mod.rs` the folder itself."""
+    """Returns the module of a source in a folder: `a/b.rs` is `a::b`, and `mod.rs` is the folder."""
     parts = source.relative_to(folder).with_suffix("").parts
     return "::".join(part for part in parts if part != "mod")
 
 
 def shared_units():
-    """The units of `units.txt`."""
+    """Yields the units of `units.txt`."""
     for line in (TESTS / "units.txt").read_text(encoding="utf-8").splitlines():
         if not line or line.startswith("#"):
             continue
@@ -49,19 +49,19 @@ def shared_units():
 
 
 def inside_units():
-    """The units that test a crate's inside."""
+    """Yields the units that test the inside of a crate."""
     for folder in sorted({source.parent for source in TESTS.rglob("*.tests.rs")}):
         tests = [it for source in sorted(folder.rglob("*.tests.rs")) for it in names_in(source, f"{inside_path(source, folder)}::tests")]
         yield Unit(folder.name, (), "", tuple(tests))
 
 
 def inside_path(source, folder):
-    """The module whose inside a source tests: `a/b.tests.rs` is of `a::b`."""
+    """Returns the module that a source tests from inside: `a/b.tests.rs` tests `a::b`."""
     return "::".join(str(source.relative_to(folder)).removesuffix(".tests.rs").split("/"))
 
 
 def units():
-    """All units."""
+    """Returns all units."""
     return [*shared_units(), *inside_units()]
 
 
@@ -69,7 +69,7 @@ def lay(to):
     """Copies the crates to the folder `to`, with the tests in their places."""
     shutil.copytree(TOP / "crates", to / "crates", ignore=shutil.ignore_patterns("out"))
     shutil.copy(TOP / "HANDLES", to)
-    # The toolchain's search for the repository's top ends here.
+    # The toolchain's search for the top of the repository ends here.
     (to / ".git").mkdir()
     listed = (TOP / "crates.txt").read_text(encoding="utf-8")
     for unit in shared_units():
@@ -91,7 +91,7 @@ def lay_unit(unit, src):
 
 
 def lay_inside(source, src):
-    """Puts a source of a crate's inside below its module."""
+    """Adds a source to a crate as the module `tests` of the module that the source tests."""
     module = src / source.name.replace(".tests.rs", ".rt")
     put(source, module.with_suffix("") / "tests.rt")
     with open(module, "a", encoding="utf-8") as text:
@@ -99,7 +99,7 @@ def lay_inside(source, src):
 
 
 def put(source, place):
-    """Copies a source to its place, which is new."""
+    """Copies a source to a new place."""
     if place.exists():
         raise FileExistsError(f"{source} would stand in the place of {place}")
     place.parent.mkdir(parents=True, exist_ok=True)

@@ -1,11 +1,11 @@
-//! What `check` counts.
+//! `check` counts stations, pairs, self-pairs and strangers.
 
 use crate::scenes::change::Change;
 use crate::scenes::scene::{RUN, Scene, first_untrue};
 use crate::scenes::stations::{CHECK, THREE_PLAIN};
 use std::test::Fail;
 
-// A check of the three stations.
+// `check` on the three stations.
 const COUNT: Scene<'static> = Scene {
     command: CHECK,
     ..RUN
@@ -18,14 +18,14 @@ const ODDITIES: Scene<'static> = Scene {
     ..COUNT
 };
 
-// The pairs are those of the book: a pair above the top channel, or of a station that isn't in the scenario, is cut.
+// Only pairs of the book count: pairs above the top channel, or of a station outside the scenario, are left out.
 const CUT: Scene<'static> = Scene {
     domains: "DOMAIN,1,14,16\nDOMAIN,2,14,16\nDOMAIN,3,14\nDOMAIN,9,14\n",
     rows: "CO,14,14,1,2,9\nCO,16,16,1,2\n",
     ..COUNT
 };
 
-// A start set that doesn't fit is no matter of a check.
+// `check` does not test whether the start set fits.
 const UNFIT: Scene<'static> = Scene {
     stations: THREE_PLAIN,
     ..COUNT

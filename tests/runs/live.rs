@@ -1,4 +1,4 @@
-//! What `live` and `verify-live` leave.
+//! Results of `live` and `verify-live`.
 
 use crate::scenes::change::Change;
 use crate::scenes::scene::{RUN, Scene, first_untrue, leaves, verifies};
@@ -10,10 +10,10 @@ use std::sync::Wait;
 use std::test::Fail;
 use std::thread::Threads;
 
-// What the owners of the three stations say whose values are 50, 70 and 10, at prices of 100, 60 and 20.
+// The answers of owners whose stations are worth 50, 70 and 10 cents, at prices of 100, 60 and 20.
 const SIX: &str = "0,1,stay\n1,1,stay\n0,2,stay\n0,3,stay\n1,3,stay\n2,3,stay\n";
 
-// The three stations without values, and what their owners say.
+// The three stations without values, and the answers of their owners.
 const SAID: Scene<'static> = Scene {
     command: LIVE,
     stations: THREE_PLAIN,
@@ -21,7 +21,7 @@ const SAID: Scene<'static> = Scene {
     ..RUN
 };
 
-// Stations 1 and 2 leave at once, and station 3 stays in every round.
+// Stations 1 and 2 leave in round 1, and station 3 stays in every round.
 const LEFT_AT_ONCE: &str = "0,1,stay\n0,2,stay\n0,3,stay\n1,3,stay\n2,3,stay\n";
 
 const BY_THE_VALUES: &str =
@@ -37,7 +37,7 @@ const TWO: Scene<'static> = Scene {
 
 const AUCTIONS: &[(Scene<'static>, &str)] = &[
     (SAID, BY_THE_VALUES),
-    // The values are not used: the lines that follow them give their result, and others give another.
+    // The result depends on the answers and not on the values.
     (
         Scene {
             stations: THREE,
@@ -60,7 +60,7 @@ const AUCTIONS: &[(Scene<'static>, &str)] = &[
         },
         AT_ONCE,
     ),
-    // Without a line at the opening price a station is on air from the start.
+    // A station without a line at the opening price is on air from the start.
     (
         Scene {
             owners: Some("0,1,stay\n1,1,stay\n0,3,stay\n1,3,stay\n2,3,stay"),
@@ -83,7 +83,7 @@ const AUCTIONS: &[(Scene<'static>, &str)] = &[
         },
         "status 6; said: the start set does not fit\n; nothing stored; ending: start refuted; inputs kept",
     ),
-    // One who stays in every round goes on air in the last one.
+    // A station that stays in every round goes on air in the last one.
     (
         Scene {
             owners: Some("0,1,stay\n2,1,stay\n1,1,stay\n0,2,stay\n"),
@@ -91,7 +91,7 @@ const AUCTIONS: &[(Scene<'static>, &str)] = &[
         },
         "status 0; out.csv: facility,outcome,round,price\n1,exit,3,0\n2,exit,1,0\n; tests: 1.1 fits, 1.2 fits, 2.1 fits, 3.1 as before",
     ),
-    // One who has left doesn't come back.
+    // A station that has left does not come back.
     (
         Scene {
             owners: Some("0,1,stay\n1,1,leave\n2,1,stay\n0,2,stay\n2,2,stay\n"),
@@ -99,7 +99,7 @@ const AUCTIONS: &[(Scene<'static>, &str)] = &[
         },
         "status 0; out.csv: facility,outcome,round,price\n1,exit,1,0\n2,exit,1,0\n; tests: 1.1 fits, 1.2 fits",
     ),
-    // A test that no worker decides.
+    // No worker decides one test.
     (
         Scene {
             workers: ONE_LINE,
@@ -115,7 +115,7 @@ fn live_auctions_are_settled(rt: HostRuntime) -> Result<(), Fail> {
     Ok(())
 }
 
-// Owners' files, and the line of each.
+// Invalid owners' files, and the line that reports each.
 const REFUSED: &[(&str, &str)] = &[
     ("0,1,stay\n1,1\n", "w.csv: line 2: not three fields\n"),
     ("0,1,stay,1", "w.csv: line 1: not three fields\n"),
@@ -133,7 +133,7 @@ const REFUSED: &[(&str, &str)] = &[
     ),
 ];
 
-// The line of the first owners' file that `live` or `verify-live` doesn't refuse with it.
+// Returns the line of the first owners' file that `live` or `verify-live` does not reject with that line.
 fn first_let_through<'a, W: Threads + Wait + Sync>(
     rt: &W,
     alloc: Global,
@@ -183,7 +183,7 @@ const ORDER_OF_READING: &[(Scene<'static>, &str)] = &[
         },
         "status 3; said: cannot read w.csv\n; nothing stored; no record; faults: 1",
     ),
-    // Behind the book, and before a transcript.
+    // The owners' file is read after the book and before a transcript.
     (
         Scene {
             domains: "DOMAIN,1,14\nDOMAIN,2,14\n",
@@ -238,7 +238,7 @@ const TRANSCRIPTS: &[(Scene<'static>, &str)] = &[
         SHOWN,
         "status 0; said: facility,outcome,round,price\n1,exit,2,0\n2,exit,1,0\n3,frozen,2,60\n; ending: done; tests: 1.1 fits, 1.2 fits, 1.3 fits, 2.1 fits, 2.3 refuted by 0; map: 1 on 15, 2 on 14; no out.csv; inputs kept",
     ),
-    // Station 1 goes on air in round 1, on the channel that the next step gives station 2.
+    // Station 1 goes on air in round 1, on the channel that the next step gives to station 2.
     (
         Scene {
             owners: Some("0,1,stay\n0,2,stay\n0,3,stay\n1,3,stay\n2,3,stay\n"),
@@ -246,7 +246,7 @@ const TRANSCRIPTS: &[(Scene<'static>, &str)] = &[
         },
         "status 9; said: tr.txt: step 2: not valid\n; no record; inputs kept",
     ),
-    // Station 1 stays in round 2, so that the last step's set lacks it.
+    // Station 1 stays in round 2, and the last step's set lacks it.
     (
         Scene {
             owners: Some("0,1,stay\n1,1,stay\n2,1,stay\n0,2,stay\n0,3,stay\n1,3,stay\n2,3,stay\n"),
@@ -254,7 +254,7 @@ const TRANSCRIPTS: &[(Scene<'static>, &str)] = &[
         },
         "status 9; said: tr.txt: step 5: not valid\n; no record; inputs kept",
     ),
-    // By the values nobody takes part.
+    // `verify` uses the values. The stations have none, and no station takes part.
     (
         Scene {
             command: VERIFY,

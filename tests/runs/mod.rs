@@ -1,4 +1,4 @@
-//! Tests of the commands `run`, `live`, `check` and `verify-live`, by runs of the whole program over `scenes`.
+//! Tests of the commands `run`, `live`, `check` and `verify-live`, which run the whole program with `scenes`.
 
 mod checked;
 mod held_workers;

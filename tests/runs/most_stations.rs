@@ -1,4 +1,4 @@
-//! A run of 8,192 stations, the most that a scenario may have.
+//! A run of 8,192 stations, the maximum for a scenario.
 
 use crate::scenes::scene::{RUN, Scene, leaves};
 use crate::scenes::stations::{domain_rows, free_stations};
@@ -9,13 +9,13 @@ use std::thread::Threads;
 
 const MOST: u32 = 8_192;
 
-// One round, at a price of 100.
+// One round at a price of 100.
 const ONE_ROUND: &str = "\"top\":15,\"opening\":100,\"decrements\":[]";
 
 const ALL_ON_AIR: &str =
     "status 0; said: stations 8192\non-air 8192\nfrozen 0\nundecided 0\ntotal 0\n; channels of the map; tr.txt begins: transcript 2, start empty; tr.txt ends: end 8192";
 
-// Whether the run of this many stations of value 0, each with channel 14 alone and without a row, leaves what these facts say.
+// Checks whether a run of `count` stations has these facts. Each station has value 0 and only channel 14; no row names any.
 fn leaves_of<W: Threads + Wait + Sync>(
     rt: &W,
     alloc: Global,
@@ -34,9 +34,9 @@ fn leaves_of<W: Threads + Wait + Sync>(
     leaves(rt, alloc, &scene, facts)
 }
 
-// A value of 0 is not above the opening offer of 100, so no station starts on air, and each is tested in round 1. Without a row
-// no two stations disturb each other, so each test fits, though all stations share channel 14. Without a decrement round 1 is
-// the last one, in which a station that fits goes on air, whatever its value is. So none is frozen, and nothing is paid.
+// A value of 0 is not above the opening offer of 100, and no station starts on air. Each is tested in round 1. Without a row no two
+// stations interfere, and each test fits although all stations share channel 14. Without a decrement round 1 is the last one, where
+// each station that fits goes on air, whatever its value. None is frozen, and nothing is paid.
 #[test]
 fn all_of_the_most_stations_go_on_air(rt: HostRuntime) -> Result<(), Fail> {
     assert!(rt; leaves_of(&rt, rt.alloc(), MOST, ALL_ON_AIR)?);

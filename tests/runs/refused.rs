@@ -1,4 +1,4 @@
-//! What is refused, and with which line.
+//! `run` and `check` reject invalid inputs, each with one line.
 
 use crate::scenes::change::Change;
 use crate::scenes::scene::{RUN, Scene, are_refused, first_untrue_words, leaves};
@@ -8,7 +8,7 @@ use std::sync::Wait;
 use std::test::Fail;
 use std::thread::Threads;
 
-// The line of the first row whose change of the inputs isn't refused with it.
+// Returns the line of the first row whose change of the inputs is not rejected with that line.
 fn first_let_through<'a, W: Threads + Wait + Sync>(
     rt: &W,
     alloc: Global,
@@ -23,7 +23,7 @@ fn first_let_through<'a, W: Threads + Wait + Sync>(
     Ok(None)
 }
 
-// Changes of the inputs, and the line of each. More of them stand in `bad_files`.
+// Changes of the inputs, and the line that reports each. `bad_files` has more.
 const REFUSED: &[(Change<'static>, &str)] = &[
     (
         Change::Holds("d.csv", "\nDOMAINS,1,14\n"),
@@ -98,7 +98,7 @@ const REFUSED: &[(Change<'static>, &str)] = &[
         "s.json: wrong kind value at 1\n",
     ),
     (Change::Part("{\"id\":3,", "{"), "s.json: missing id at 3\n"),
-    // Bytes that are no text.
+    // Bytes that are not UTF-8.
     (Change::Garbled("d.csv"), "d.csv: line 1: unknown key\n"),
     (Change::Garbled("r.csv"), "r.csv: line 1: short row\n"),
     (Change::Garbled("s.json"), "s.json: not JSON\n"),
@@ -110,7 +110,7 @@ fn inputs_are_refused(rt: HostRuntime) -> Result<(), Fail> {
     Ok(())
 }
 
-// Whether a check of this many stations leaves what these facts say.
+// Checks whether `check` on `count` stations has these facts.
 fn leaves_of<W: Threads + Wait + Sync>(
     rt: &W,
     alloc: Global,
@@ -160,7 +160,7 @@ const GIVEN_TWICE: &[(&str, &str)] = &[
         "repack run a b c d d e",
         "status 5; said: d: given twice\n; nothing stored; no record",
     ),
-    // Other names of one place are two names.
+    // Two different names of the same file are accepted.
     (
         "repack run d.csv r.csv s.json out.csv ./out.csv tr.txt",
         "status 0",

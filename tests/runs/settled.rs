@@ -1,4 +1,4 @@
-//! What `run` leaves where every test was decided.
+//! Results of `run` when every test is decided.
 
 use crate::scenes::change::Change;
 use crate::scenes::scene::{RUN, Scene, first_untrue, first_untrue_change};
@@ -14,7 +14,7 @@ const ONE: Scene<'static> = Scene {
     ..RUN
 };
 
-// The same at the greatest opening and volume.
+// The one station with the greatest opening price and volume.
 const GREATEST: Scene<'static> = Scene {
     clock: "\"top\":36,\"opening\":1000000,\"decrements\":[]",
     stations: "{\"id\":1,\"volume\":1000000,\"value\":10}",
@@ -22,7 +22,7 @@ const GREATEST: Scene<'static> = Scene {
 };
 
 const THREE_STATIONS: &[(Change<'static>, &str)] = &[
-    // The three outputs are stored. Which channels, and which proof, is the solver's.
+    // `run` stores the three outputs. The solver chooses the channels and the proof.
     (
         Change::Part("", ""),
         "status 0; said: stations 3\non-air 2\nfrozen 1\nundecided 0\ntotal 60\n; out.csv: facility,outcome,round,price\n1,exit,2,0\n2,exit,1,0\n3,frozen,2,60\n; channels of the map; tr.txt begins: transcript 2, start empty; tr.txt ends: end 5; inputs kept",
@@ -32,7 +32,7 @@ const THREE_STATIONS: &[(Change<'static>, &str)] = &[
         Change::Part("", ""),
         "ending: done; tests: 1.1 fits, 1.2 fits, 1.3 fits, 2.1 fits, 2.3 refuted by 0; on air: 1, 2; total: 60",
     ),
-    // An offer equal to the value is taken.
+    // A station stays in the clock when its offer equals its value.
     (
         Change::Part("\"value\":10", "\"value\":60"),
         "status 0; said: stations 3\non-air 2\nfrozen 1\nundecided 0\ntotal 60\n; out.csv: facility,outcome,round,price\n1,exit,2,0\n2,exit,1,0\n3,frozen,2,60\n",
@@ -45,12 +45,12 @@ const THREE_STATIONS: &[(Change<'static>, &str)] = &[
         Change::Part("[40,40]", "[]"),
         "status 0; said: stations 3\non-air 2\nfrozen 1\nundecided 0\ntotal 100\n; out.csv: facility,outcome,round,price\n1,exit,1,0\n2,exit,1,0\n3,frozen,1,100\n",
     ),
-    // Of greater volume, station 3 is tested first in each round.
+    // Station 3 has the greatest volume and is tested first in each round.
     (
         Change::Part("\"id\":3,\"volume\":1", "\"id\":3,\"volume\":2"),
         "status 0; said: stations 3\non-air 2\nfrozen 1\nundecided 0\ntotal 40\n; out.csv: facility,outcome,round,price\n1,exit,2,0\n2,exit,1,0\n3,frozen,3,40\n; tests: 1.3 fits, 1.1 fits, 1.2 fits, 2.3 fits, 2.1 fits, 3.3 refuted by 0",
     ),
-    // By rate the prices are 100, 60, 36, 16 and 0. Two tests ask about the same stations as one round before.
+    // A rate gives prices of 100, 60, 36, 16 and 0. Two tests have the same set as the same station's test one round before.
     (
         Change::Part(
             "1,\"top\":15,\"opening\":100,\"decrements\":[40,40],\"stations\":[{\"id\":1,\"volume\":1,\"value\":50}",
@@ -58,7 +58,7 @@ const THREE_STATIONS: &[(Change<'static>, &str)] = &[
         ),
         "status 0; said: stations 3\non-air 2\nfrozen 1\nundecided 0\ntotal 36\n; out.csv: facility,outcome,round,price\n1,exit,3,0\n2,exit,1,0\n3,frozen,3,36\n; tests: 1.1 fits, 1.2 fits, 1.3 fits, 2.1 fits, 2.3 as before, 3.1 as before, 3.3 refuted by 0; channels of the map; tr.txt ends: end 7",
     ),
-    // A station that starts on air goes on air in round 0.
+    // A station that is on air from the start has round 0 in RESULT.
     (
         Change::Part("\"value\":70", "\"value\":101"),
         "status 0; said: stations 3\non-air 2\nfrozen 1\nundecided 0\ntotal 60\n; out.csv: facility,outcome,round,price\n1,exit,2,0\n2,start,0,0\n3,frozen,2,60\n; start: fits; tests: 1.1 fits, 1.3 fits, 2.1 as before, 2.3 refuted by 0; channels of the map; tr.txt begins: transcript 2, start fit 1; tr.txt ends: end 4",
@@ -95,7 +95,7 @@ const OTHER_STATIONS: &[(Scene<'static>, &str)] = &[
         NOBODY,
         "status 0; said: stations 0\non-air 0\nfrozen 0\nundecided 0\ntotal 0\n; out.csv: facility,outcome,round,price\n; chan.csv: facility,channel\n; tr.txt: transcript 2\nstart empty\nend 0\n",
     ),
-    // No channel is left BELOW the top.
+    // All channels of the station are above the top channel.
     (
         ONE,
         "status 0; said: stations 1\non-air 0\nfrozen 1\nundecided 0\ntotal 100\n; out.csv: facility,outcome,round,price\n1,frozen,1,100\n; chan.csv: facility,channel\n; tr.txt: transcript 2\nstart empty\nnone 1 1\nend 1\n",

@@ -1,4 +1,4 @@
-//! Start sets that don't fit, and such as no worker decides.
+//! Start sets that do not fit, and start sets that no worker decides.
 
 use crate::scenes::scene::{RUN, Scene, first_untrue};
 use crate::scenes::stations::{THREE_PLAIN, TWO_PLAIN};
@@ -21,7 +21,7 @@ const BARE: Scene<'static> = Scene {
     ..ALL
 };
 
-// Two stations on one channel alone, tried by a worker that proves and by one that walks.
+// Two stations with the same single channel, tested by a `cdcl` worker and a `walk` worker.
 const LEARNS_FIRST: Scene<'static> = Scene {
     domains: "DOMAIN,1,14\nDOMAIN,2,14\n",
     rows: "CO,14,14,1,2\n",
@@ -35,7 +35,7 @@ const WALKS_FIRST: Scene<'static> = Scene {
     ..LEARNS_FIRST
 };
 
-// Either of two that learn may be the first to decide.
+// Either of two `cdcl` workers may decide first.
 const TWO_LEARN: Scene<'static> = Scene {
     workers: "{\"kind\":\"cdcl\",\"budget\":1000},{\"kind\":\"cdcl\",\"budget\":1000}",
     ..ALL

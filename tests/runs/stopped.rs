@@ -1,4 +1,4 @@
-//! What is left where the folder or the sink fails, and where the words are no command.
+//! Results of a run whose folder or sink fails, and of words that are no command.
 
 use crate::scenes::change::Change;
 use crate::scenes::scene::{RUN, Scene, first_untrue_change, leaves};
@@ -8,9 +8,10 @@ use std::sync::Wait;
 use std::test::Fail;
 use std::thread::Threads;
 
-// Changes of the run on the three stations, and what is left.
+// Changes of the run on the three stations, and the expected facts.
 const RUN_STOPPED: &[(Change<'static>, &str)] = &[
-    // Domains and rows are begun and handed out in pieces, of which the last is empty; the scenario is one load.
+    // The program reads domains and rows in pieces: the call that opens the file, a piece, and an empty piece. It loads the scenario in
+    // one call.
     (
         Change::Call(1),
         "status 3; said: cannot read d.csv\n; nothing stored; no record; inputs kept; faults: 1",
@@ -39,7 +40,7 @@ const RUN_STOPPED: &[(Change<'static>, &str)] = &[
         Change::Call(7),
         "status 3; said: cannot read s.json\n; nothing stored; no record; inputs kept; faults: 1",
     ),
-    // Then each output is one store. The first that fails ends it.
+    // Then the program stores each output in one call. The first failure ends the run.
     (
         Change::Call(8),
         "status 4; said: cannot write out.csv\n; nothing stored; a record; faults: 1",
@@ -53,7 +54,7 @@ const RUN_STOPPED: &[(Change<'static>, &str)] = &[
         "status 4; said: cannot write tr.txt\n; out.csv: facility,outcome,round,price\n1,exit,2,0\n2,exit,1,0\n3,frozen,2,60\n; channels of the map; no tr.txt; inputs kept; a record; faults: 1",
     ),
     (Change::Call(11), "status 0; tr.txt ends: end 5; faults: 0"),
-    // Outputs of a run before: those that are stored have new texts, and those behind the one that fails stand.
+    // Outputs of an earlier run: those stored before the failure have new texts, and the others keep the old ones.
     (
         Change::Over("old", 7),
         "status 3; said: cannot read s.json\n; out.csv: old; chan.csv: old; tr.txt: old; inputs kept; no record; faults: 1",
@@ -70,7 +71,7 @@ const RUN_STOPPED: &[(Change<'static>, &str)] = &[
         Change::Over("old", 10),
         "status 4; said: cannot write tr.txt\n; out.csv: facility,outcome,round,price\n1,exit,2,0\n2,exit,1,0\n3,frozen,2,60\n; channels of the map; inputs kept; a record; faults: 1",
     ),
-    // Behind a line that is refused nothing is read.
+    // Nothing is read after an invalid line.
     (
         Change::Stops("d.csv", "DOMAIN,1,x\n", 3),
         "status 5; said: d.csv: line 1: bad number\n; nothing stored; no record; faults: 0",
@@ -84,19 +85,19 @@ const RUN_STOPPED: &[(Change<'static>, &str)] = &[
         Change::Write(1),
         "status 4; nothing said; out.csv: facility,outcome,round,price\n1,exit,2,0\n2,exit,1,0\n3,frozen,2,60\n; channels of the map; tr.txt begins: transcript 2, start empty; tr.txt ends: end 5; a record",
     ),
-    // Where the line of a fault can't be written either, the status stays.
+    // The status is the same if the line that reports the error cannot be written.
     (
         Change::Mute(1),
         "status 3; nothing said; nothing stored; no record; inputs kept; faults: 1",
     ),
-    // The summary is one write, so a second one is never made.
+    // The summary is a single write, and write 2 never happens.
     (
         Change::Write(2),
         "status 0; said: stations 3\non-air 2\nfrozen 1\nundecided 0\ntotal 60\n",
     ),
 ];
 
-// Changes of the check of the same files, and what is left.
+// Changes of `check` on the same files, and the expected facts.
 const CHECK_STOPPED: &[(Change<'static>, &str)] = &[
     (
         Change::Call(1),
@@ -126,7 +127,7 @@ const CHECK_STOPPED: &[(Change<'static>, &str)] = &[
         Change::Call(7),
         "status 3; said: cannot read s.json\n; nothing stored; no record; inputs kept; faults: 1",
     ),
-    // Nothing is read behind the scenario.
+    // Nothing is read after the scenario.
     (
         Change::Call(8),
         "status 0; said: stations 3\npairs 6\nself-pairs 0\nstrangers 0\n; nothing stored; faults: 0",
@@ -139,7 +140,7 @@ const CHECK_STOPPED: &[(Change<'static>, &str)] = &[
         Change::Write(1),
         "status 4; nothing said; nothing stored; no record",
     ),
-    // The counts are one write, so a second one is never made.
+    // The counts are a single write, and write 2 never happens.
     (
         Change::Write(2),
         "status 0; said: stations 3\npairs 6\nself-pairs 0\nstrangers 0\n",
@@ -163,7 +164,7 @@ fn the_folder_or_the_sink_fails(rt: HostRuntime) -> Result<(), Fail> {
     Ok(())
 }
 
-// The first of these lines that is a command, in an empty folder.
+// Returns the first of these lines that is a command, in an empty folder.
 fn first_command<'a, W: Threads + Wait + Sync>(
     rt: &W,
     alloc: Global,

@@ -1,4 +1,4 @@
-//! Workers that spend their budgets, and workers that decide beside such.
+//! Workers that spend their budgets, alone and together with workers that decide.
 
 use crate::scenes::scene::{RUN, Scene, leaves};
 use std::alloc::{AllocError as NoMemory, Global};
@@ -6,7 +6,7 @@ use std::sync::Wait;
 use std::test::Fail;
 use std::thread::Threads;
 
-// The workers of the first row whose facts aren't so of the run by them.
+// Returns the workers of the first row that has a fact which is not true of a run with these workers.
 fn first_untrue_by<'a, W: Threads + Wait + Sync>(
     rt: &W,
     alloc: Global,
@@ -34,12 +34,12 @@ const WORKERS: &[(&str, &str)] = &[
         "{\"kind\":\"walk\",\"budget\":1,\"seed\":7},{\"kind\":\"cdcl\",\"budget\":1}",
         "status 1; said: stations 3\non-air 2\nfrozen 1\nundecided 1\ntotal 60\n; out.csv: facility,outcome,round,price\n1,exit,2,0\n2,exit,1,0\n3,undecided,2,60\n; tests: 1.1 fits, 1.2 fits, 1.3 fits, 2.1 fits, 2.3 open after 1 move + 1 line",
     ),
-    // Sixteen, the most that there may be.
+    // Sixteen workers, the maximum.
     (
         "{\"kind\":\"cdcl\",\"budget\":1},{\"kind\":\"cdcl\",\"budget\":1},{\"kind\":\"cdcl\",\"budget\":1},{\"kind\":\"cdcl\",\"budget\":1},{\"kind\":\"cdcl\",\"budget\":1},{\"kind\":\"cdcl\",\"budget\":1},{\"kind\":\"cdcl\",\"budget\":1},{\"kind\":\"cdcl\",\"budget\":1},{\"kind\":\"cdcl\",\"budget\":1},{\"kind\":\"cdcl\",\"budget\":1},{\"kind\":\"cdcl\",\"budget\":1},{\"kind\":\"cdcl\",\"budget\":1},{\"kind\":\"cdcl\",\"budget\":1},{\"kind\":\"cdcl\",\"budget\":1},{\"kind\":\"cdcl\",\"budget\":1},{\"kind\":\"cdcl\",\"budget\":1}",
         "status 1; said: stations 3\non-air 2\nfrozen 1\nundecided 1\ntotal 60\n; out.csv: facility,outcome,round,price\n1,exit,2,0\n2,exit,1,0\n3,undecided,2,60\n; tests: 1.1 fits, 1.2 fits, 1.3 fits, 2.1 fits, 2.3 open after 1 line + 1 line + 1 line + 1 line + 1 line + 1 line + 1 line + 1 line + 1 line + 1 line + 1 line + 1 line + 1 line + 1 line + 1 line + 1 line",
     ),
-    // Beside workers that don't, wherever it stands in the list.
+    // One worker decides, first or last in the list.
     (
         "{\"kind\":\"cdcl\",\"budget\":1},{\"kind\":\"cdcl\",\"budget\":1000}",
         "status 0; said: stations 3\non-air 2\nfrozen 1\nundecided 0\ntotal 60\n; out.csv: facility,outcome,round,price\n1,exit,2,0\n2,exit,1,0\n3,frozen,2,60\n; tests: 1.1 fits, 1.2 fits, 1.3 fits, 2.1 fits, 2.3 refuted by 1",
@@ -52,12 +52,12 @@ const WORKERS: &[(&str, &str)] = &[
         "{\"kind\":\"walk\",\"budget\":1,\"seed\":7},{\"kind\":\"cdcl\",\"budget\":1000}",
         "status 0; said: stations 3\non-air 2\nfrozen 1\nundecided 0\ntotal 60\n; out.csv: facility,outcome,round,price\n1,exit,2,0\n2,exit,1,0\n3,frozen,2,60\n; tests: 1.1 fits, 1.2 fits, 1.3 fits, 2.1 fits, 2.3 refuted by 1",
     ),
-    // Either of two that decide may be the first.
+    // Either of two deciding workers may be the first.
     (
         "{\"kind\":\"cdcl\",\"budget\":1000},{\"kind\":\"cdcl\",\"budget\":1000}",
         "status 0; said: stations 3\non-air 2\nfrozen 1\nundecided 0\ntotal 60\n; out.csv: facility,outcome,round,price\n1,exit,2,0\n2,exit,1,0\n3,frozen,2,60\n; ending: done; total: 60",
     ),
-    // A walk finds what fits, and shows nothing where these don't fit.
+    // A walk finds the fits, and cannot decide the set that does not fit.
     (
         "{\"kind\":\"walk\",\"budget\":10000,\"seed\":7},{\"kind\":\"cdcl\",\"budget\":1000}",
         "status 0; said: stations 3\non-air 2\nfrozen 1\nundecided 0\ntotal 60\n; out.csv: facility,outcome,round,price\n1,exit,2,0\n2,exit,1,0\n3,frozen,2,60\n; tests: 1.1 fits, 1.2 fits, 1.3 fits, 2.1 fits, 2.3 refuted by 1",

@@ -2,7 +2,7 @@ use super::*;
 use std::mem::size_of;
 use std::test::Fail;
 
-// A line that can't be packed leaves none of its bytes, and copied and fitted lines have no room to spare.
+// A line that cannot be packed leaves no bytes, and copied and fitted lines have no spare room.
 #[test]
 fn no_byte_more_than_the_lines_need(rt: HostRuntime) -> Result<(), Fail> {
     let alloc = rt.alloc();
@@ -28,7 +28,7 @@ fn no_byte_more_than_the_lines_need(rt: HostRuntime) -> Result<(), Fail> {
     Ok(())
 }
 
-// A line of 20 literals and 17 hints, as those of a national auction are in the mean, takes at most 150 bytes.
+// A line of 20 literals and 17 hints, the averages in a national auction, takes at most 150 bytes.
 #[test]
 fn a_line_of_usual_length_is_small(rt: HostRuntime) -> Result<(), Fail> {
     let alloc = rt.alloc();

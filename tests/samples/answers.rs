@@ -1,4 +1,4 @@
-//! Answers to the queries of stations 1 to 3, and the lines of the log that refutes all three.
+//! Answers to the queries of stations 1 to 3, and the lines of the log that refutes their set.
 
 use cert_types::answer::{Answer, Receipt, Refutation};
 use clause_db::lit::Lit;
@@ -9,28 +9,28 @@ use rup_check::line::Log;
 use rup_check::lines::Lines;
 use std::alloc::{AllocError as NoMemory, Global};
 
-/// What a worker answers.
+/// A worker's answer.
 #[derive(Clone, Copy)]
 pub enum Given {
-    /// No channel.
+    /// A fit without channels.
     FitNothing,
-    /// A channel for a station.
+    /// A fit with a channel for one station.
     Fit(u32, u8),
-    /// These channels for stations 1 and 2.
+    /// A fit with these channels for stations 1 and 2.
     FitTwo(u8, u8),
-    /// That stations 1 to 3 do not fit, by a log of two lines.
+    /// A refutation of the set of stations 1 to 3, by a log of two lines.
     Refuted,
-    /// A pair that is said to be dead.
+    /// A refutation by this pair, which need not be dead.
     Dead(Pair),
-    /// A proof of no station: an empty line without hints.
+    /// A refutation over no station, by an empty line without hints.
     EmptyProof,
-    /// One line was derived.
+    /// A receipt of one line.
     Spent,
-    /// A station was moved to a channel.
+    /// A receipt of one move, of a station to a channel.
     Moved(u32, u8),
 }
 
-/// Answers to the queries of stations 1 to 3, which are worth 50, 70 and 10 cents: four fits, and that the last set does not fit.
+/// Four fits and a refutation of the last set: the answers to the queries of stations 1 to 3 with values of 50, 70 and 10 cents.
 pub const FOUR_FITS: &[Given] = &[
     Given::Fit(1, 14),
     Given::Fit(2, 14),
@@ -39,7 +39,7 @@ pub const FOUR_FITS: &[Given] = &[
     Given::Refuted,
 ];
 
-/// The same where station 2 is on air from the start: three fits, and that the last set does not fit.
+/// Three fits and a refutation of the last set: the answers to the queries if station 2 is on air from the start.
 pub const THREE_FITS: &[Given] = &[
     Given::Fit(2, 14),
     Given::Fit(1, 15),
@@ -47,7 +47,7 @@ pub const THREE_FITS: &[Given] = &[
     Given::Refuted,
 ];
 
-/// Literals by their numbers, a negative one for the opposite.
+/// Returns the literals with these numbers; a negative number is a negated variable.
 pub fn lits(alloc: Global, numbers: &[i64]) -> Result<Vec<Lit>, NoMemory> {
     let mut lits = Vec::new(alloc);
     for number in numbers {
@@ -59,7 +59,7 @@ pub fn lits(alloc: Global, numbers: &[i64]) -> Result<Vec<Lit>, NoMemory> {
     Ok(lits)
 }
 
-/// The first line of the log: 13 -1 0 7 2 8 3 12 0
+/// Returns the first line of the log: `13 -1 0 7 2 8 3 12 0`.
 pub fn one_line(alloc: Global) -> Result<Log, NoMemory> {
     let lit = Lit {
         var: 1,
@@ -70,14 +70,14 @@ pub fn one_line(alloc: Global) -> Result<Log, NoMemory> {
     Ok(Log { lines })
 }
 
-/// The whole log, with the line 14 0 13 1 9 2 10 3 11 0 behind the first.
+/// Returns the complete log: the first line and `14 0 13 1 9 2 10 3 11 0`.
 pub fn two_lines(alloc: Global) -> Result<Log, NoMemory> {
     let mut log = one_line(alloc)?;
     log.lines.push(&[], &[13, 1, 9, 2, 10, 3, 11])?;
     Ok(log)
 }
 
-/// What shows that stations 1 to 3 do not fit: these two lines.
+/// Returns the refutation of stations 1 to 3 by the two lines.
 pub fn refutation(alloc: Global) -> Result<Refutation, NoMemory> {
     Ok(Refutation::Proof {
         subset: Items::from_vec(Vec::from_slice(alloc, &[1, 2, 3])?),
@@ -85,12 +85,12 @@ pub fn refutation(alloc: Global) -> Result<Refutation, NoMemory> {
     })
 }
 
-/// A fit that gives these channels.
+/// Returns a fit with these channels.
 pub fn fit(alloc: Global, delta: &[(u32, u8)]) -> Result<Answer, NoMemory> {
     Ok(Answer::Fit(ChannelMap::of(alloc, delta)?))
 }
 
-/// These moves of a walk.
+/// Returns a receipt of these moves.
 pub fn walk(alloc: Global, moves: &[(u32, u8)]) -> Result<Answer, NoMemory> {
     let moves = Items::from_vec(Vec::from_slice(alloc, moves)?);
     Ok(Answer::Spent(Receipt::Moves(moves)))
@@ -112,7 +112,7 @@ fn empty_proof(alloc: Global) -> Result<Answer, NoMemory> {
     Ok(Answer::Refuted(Refutation::Proof { subset, log }))
 }
 
-/// The answer itself.
+/// Returns the answer that `given` describes.
 pub fn answer(alloc: Global, given: Given) -> Result<Answer, NoMemory> {
     match given {
         Given::FitNothing => fit(alloc, &[]),

@@ -1,4 +1,4 @@
-//! Books of a few stations, up to channel 15, and what they are made of.
+//! Books of a few stations with channels up to 15, and their components.
 
 use pack_defs::book::Book;
 use pack_defs::domain::Domain;
@@ -6,18 +6,18 @@ use pack_defs::items::Items;
 use pack_defs::pair::Pair;
 use std::alloc::{AllocError as NoMemory, Global};
 
-/// A station that may use these channels.
+/// Returns the domain of a station that may use these channels.
 pub fn on(alloc: Global, station: u32, channels: &[u8]) -> Result<Domain, NoMemory> {
     let channels = Items::from_vec(Vec::from_slice(alloc, channels)?);
     Ok(Domain { station, channels })
 }
 
-/// Two stations that may not share this channel.
+/// Returns the pair of two stations that may not share this channel.
 pub fn apart(f: u32, g: u32, c: u8) -> Pair {
     Pair { f, a: c, g, b: c }
 }
 
-/// No two of stations 1 to 3 may share channel 14 or 15.
+/// Returns the pairs with which no two of stations 1 to 3 may share channel 14 or 15.
 pub fn all_apart(alloc: Global) -> Result<Vec<Pair>, NoMemory> {
     Ok(vec![in alloc;
         apart(1, 2, 14),
@@ -29,7 +29,7 @@ pub fn all_apart(alloc: Global) -> Result<Vec<Pair>, NoMemory> {
     ]?)
 }
 
-/// The book of these stations.
+/// Returns the book of these stations.
 pub fn book(
     alloc: Global,
     ids: &[u32],
@@ -39,7 +39,7 @@ pub fn book(
     Book::build(alloc, 15, ids, domains, pairs)
 }
 
-/// Stations 1 to 3 on channels 14 and 15, of which no two may share one.
+/// Returns the book of stations 1 to 3 on channels 14 and 15, no two of which may share one.
 pub fn three_stations(alloc: Global) -> Result<Book, NoMemory> {
     let domains = [
         on(alloc, 1, &[14, 15])?,
@@ -50,7 +50,7 @@ pub fn three_stations(alloc: Global) -> Result<Book, NoMemory> {
     Book::build(alloc, 15, &[1, 2, 3], &domains, &pairs)
 }
 
-/// Station 1 alone, without a channel.
+/// Returns the book of station 1 without a channel.
 pub fn lone_station(alloc: Global) -> Result<Book, NoMemory> {
     book(alloc, &[1], &[], &[])
 }

@@ -1,13 +1,13 @@
-//! A gate at which two workers meet at each query, and how a worker waits for another.
+//! A gate where two workers meet at each query, and the wait of one worker for the other.
 
 use solver_gate::gate::{Gate, Spot};
 use std::sync::atomic::{AtomicU64, Ordering};
 use std::thread;
 
-// For how many turns of yielding a worker waits for another at most.
+// The most yields of a worker that waits for the other.
 const TURNS: u32 = 10_000_000;
 
-/// Whether the number in the word comes to this one in time.
+/// Waits until the word is at least `number`. Returns whether that happened in time.
 pub fn comes(word: &AtomicU64, number: u64) -> bool {
     for _ in 0..TURNS {
         if word.load(Ordering::SeqCst) >= number {
@@ -18,22 +18,22 @@ pub fn comes(word: &AtomicU64, number: u64) -> bool {
     false
 }
 
-/// A gate at which two workers meet at each query: the second may post once the first stands before its own posting, and the
-/// first once the second was answered. So the first answer to each query is that of the second worker. Where a worker doesn't
-/// come in time the other goes on without it.
+/// A gate where two workers meet at each query. The second may post once the first has arrived to post, and the first may post once
+/// the second has its reply. The first answer to each query comes from the second worker. If a worker does not arrive in time, the
+/// other continues alone.
 #[derive(Drop)]
 pub struct Meeting {
-    // The last query at which worker 0 stood before its post.
+    // The last query that worker 0 arrived to post for.
     came: AtomicU64,
-    // The last query at which worker 1's post was answered.
+    // The last query for which worker 1 has a reply.
     answered: AtomicU64,
-    // The queries at which each was let go in time, a digit each.
+    // The queries at which each worker met the other in time, one digit each.
     first: AtomicU64,
     second: AtomicU64,
 }
 
 impl Meeting {
-    /// A gate at which no worker stood yet.
+    /// Returns a gate that no worker has reached.
     pub fn new() -> Meeting {
         Meeting {
             came: AtomicU64::new(0),
@@ -43,18 +43,18 @@ impl Meeting {
         }
     }
 
-    /// The queries at which worker 0 met worker 1, in their order, a digit each: 12 for queries 1 and 2.
+    /// Returns the queries at which worker 0 met worker 1, in order, one digit each: 12 for queries 1 and 2.
     pub fn first_met(&self) -> u64 {
         self.first.load(Ordering::SeqCst)
     }
 
-    /// The same of worker 1.
+    /// Returns the queries at which worker 1 met worker 0, in the same form.
     pub fn second_met(&self) -> u64 {
         self.second.load(Ordering::SeqCst)
     }
 }
 
-// Puts the query to the end of those that the word holds, a digit each. One worker alone does so with each word.
+// Appends the query's digit to the word. Only one worker writes to each word.
 fn note(word: &AtomicU64, number: u64) {
     let noted = word.load(Ordering::SeqCst);
     let longer = noted.wrapping_mul(10).wrapping_add(number);

@@ -1,8 +1,8 @@
-//! What tests are made of: small books, workers, scenarios, answers, what owners say, postings to an auction, and a gate
-//! that holds two workers.
+//! Shared test data: small books, workers, scenarios, answers, owners' answers, postings to an auction, and a gate that holds two
+//! workers.
 //!
-//! It may call `auction_core` and what that stands on, and `solver_gate`. Read `books` and
-//! `scenarios` first, then `answers`, then `postings`.
+//! These modules may use `auction_core`, the crates below that crate, and `solver_gate`. Read `books` and `scenarios` first, then
+//! `answers`, then `postings`.
 
 pub mod answers;
 pub mod books;

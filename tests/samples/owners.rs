@@ -1,12 +1,12 @@
-//! What the owners of stations 1 to 3 say.
+//! Answers of the owners of stations 1 to 3.
 
 use pack_defs::owners::{OwnerLine, Owners};
 use std::alloc::{AllocError as NoMemory, Global};
 
-/// Lines of owners: round, station, whether it stays.
+/// Lines of owners: the round, the station, and whether the station stays.
 pub type SaidLines = &'static [(u32, u32, bool)];
 
-/// Owners that say these lines.
+/// Returns the owners with these lines.
 pub fn saying(alloc: Global, lines: SaidLines) -> Result<Owners, NoMemory> {
     let mut owners = Owners::new(alloc);
     for (round, station, stays) in lines {
@@ -19,7 +19,7 @@ pub fn saying(alloc: Global, lines: SaidLines) -> Result<Owners, NoMemory> {
     Ok(owners)
 }
 
-/// Station 2 leaves in round 1 and station 1 in round 2, as they would by values of 70 and 50, and station 3 stays.
+/// Station 2 leaves in round 1 and station 1 in round 2, as with values of 70 and 50. Station 3 stays.
 pub const AS_BID: SaidLines = &[
     (0, 1, true),
     (1, 1, true),
@@ -29,7 +29,7 @@ pub const AS_BID: SaidLines = &[
     (2, 3, true),
 ];
 
-/// The same, but that station 2 declines the opening offer.
+/// The lines of `AS_BID`, except that station 2 declines the opening offer.
 pub const SECOND_DECLINES: SaidLines = &[
     (0, 1, true),
     (1, 1, true),
@@ -38,7 +38,7 @@ pub const SECOND_DECLINES: SaidLines = &[
     (2, 3, true),
 ];
 
-/// Station 1 leaves in round 1, and says in round 2 that it stays; station 2 leaves in round 2, and station 3 stays.
+/// Station 1 leaves in round 1, and its owner answers "stay" in round 2. Station 2 leaves in round 2, and station 3 stays.
 pub const FIRST_LEAVES: SaidLines = &[
     (0, 1, true),
     (2, 1, true),
@@ -49,7 +49,7 @@ pub const FIRST_LEAVES: SaidLines = &[
     (2, 3, true),
 ];
 
-/// Station 1 stays in each round, and the others leave, station 2 in round 1 and station 3 in round 2.
+/// Station 1 stays in each round. Station 2 leaves in round 1 and station 3 in round 2.
 pub const FIRST_STAYS: SaidLines = &[
     (0, 1, true),
     (1, 1, true),
@@ -59,7 +59,7 @@ pub const FIRST_STAYS: SaidLines = &[
     (1, 3, true),
 ];
 
-/// All three stay in each round.
+/// All three stations stay in each round.
 pub const ALL_STAY: SaidLines = &[
     (0, 1, true),
     (1, 1, true),

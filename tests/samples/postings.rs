@@ -1,4 +1,4 @@
-//! Auctions driven by postings, of which each is checked before it is taken.
+//! Auctions driven by postings. Each answer is checked before the posting.
 
 use crate::samples::answers::{Given, answer};
 use auction_core::auction::Auction;
@@ -14,7 +14,7 @@ use pack_defs::scenario::Scenario;
 use pack_defs::worker::Worker;
 use std::alloc::{AllocError as NoMemory, Global};
 
-// What lets a worker's answer to a query through, or the first place at which it is at fault.
+// Returns the certified answer of a worker to a query, or the place of the first error.
 fn checked(
     alloc: Global,
     book: &Book,
@@ -28,7 +28,7 @@ fn checked(
     }
 }
 
-// The place that a check found at fault.
+// Returns the place of the first error.
 fn place(fault: CertifyFault) -> Result<Place, NoMemory> {
     match fault.why {
         CertifyWhy::Rejected(place) => Ok(place),
@@ -36,7 +36,7 @@ fn place(fault: CertifyFault) -> Result<Place, NoMemory> {
     }
 }
 
-// What the check of a worker's answer to the standing query says.
+// Returns the checked answer of a worker to the current query.
 fn looked_at(
     alloc: Global,
     auction: &Auction,
@@ -55,7 +55,7 @@ fn looked_at(
     }
 }
 
-/// Posts the answer of a worker for a query, and gives what it is told.
+/// Posts a worker's answer to a query. Returns the reply.
 pub fn post(
     alloc: Global,
     auction: &mut Auction,
@@ -73,7 +73,7 @@ pub fn post(
     }))
 }
 
-// Posts these answers of the first worker, each to the query that stands.
+// Posts these answers of the first worker, each to the current query.
 fn post_all(alloc: Global, auction: &mut Auction, answers: &[Given]) -> Result<(), NoMemory> {
     'answers: for given in answers {
         let number = auction.number();
@@ -82,8 +82,8 @@ fn post_all(alloc: Global, auction: &mut Auction, answers: &[Given]) -> Result<(
     Ok(())
 }
 
-/// The record of this auction, whose queries are answered so by its first worker, each by the next answer; nothing where it
-/// doesn't end by them.
+/// Returns the record of this auction after the first worker gives these answers, one per query. Returns `None` if the auction has
+/// not ended then.
 pub fn record_after(
     alloc: Global,
     sc: Scenario,

@@ -1,4 +1,4 @@
-//! Scenarios that open at 100 cents and fall by 40 twice.
+//! Scenarios with an opening price of 100 cents and two decrements of 40 cents.
 
 use crate::samples::workers::learner;
 use pack_defs::fall::Fall;
@@ -8,12 +8,12 @@ use pack_defs::station::Station;
 use pack_defs::worker::Worker;
 use std::alloc::{AllocError as NoMemory, Global};
 
-/// A station of this volume, which is worth so many cents; one without a value starts on air.
+/// Returns a station with this volume and this value in cents. A station without a value starts on air.
 pub fn bid(id: u32, volume: u32, value: Option<u64>) -> Station {
     Station { id, volume, value }
 }
 
-/// The auction of these stations by these workers.
+/// Returns the auction of these stations with these workers.
 pub fn auction_of(
     alloc: Global,
     stations: Vec<Station>,
@@ -30,7 +30,7 @@ pub fn auction_of(
     })
 }
 
-/// The auction of stations 1 to 3 by these workers. They are worth 50, `value` and 10 cents, and the third has this volume.
+/// Returns the auction of stations 1 to 3 with these workers. The values are 50, `value` and 10 cents; station 3 has this volume.
 pub fn three_bids(
     alloc: Global,
     value: u64,
@@ -45,7 +45,7 @@ pub fn three_bids(
     auction_of(alloc, stations, workers)
 }
 
-/// The same by one worker that learns, of this budget.
+/// Returns the auction of `three_bids` with one `cdcl` worker of this budget.
 pub fn three_bids_by_one(
     alloc: Global,
     value: u64,
@@ -56,7 +56,7 @@ pub fn three_bids_by_one(
     three_bids(alloc, value, volume, workers)
 }
 
-/// The auction of station 1 alone, which is worth 5 cents, by a worker that learns.
+/// Returns the auction of station 1, whose value is 5 cents, with one `cdcl` worker.
 pub fn lone_bid(alloc: Global) -> Result<Scenario, NoMemory> {
     let stations = vec![in alloc; bid(1, 1, Some(5))]?;
     let workers = vec![in alloc; learner(1000)]?;

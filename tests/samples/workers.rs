@@ -1,8 +1,8 @@
-//! Workers of seed 0.
+//! Workers with seed 0.
 
 use pack_defs::worker::{Kind, Worker};
 
-/// A worker that learns lines, of this budget.
+/// Returns a `cdcl` worker with this budget in lines.
 pub fn learner(budget: u32) -> Worker {
     Worker {
         kind: Kind::Cdcl,
@@ -11,7 +11,7 @@ pub fn learner(budget: u32) -> Worker {
     }
 }
 
-/// A worker that walks over channel maps, of this budget.
+/// Returns a `walk` worker with this budget in moves.
 pub fn walker(budget: u32) -> Worker {
     Worker {
         kind: Kind::Walk,

@@ -1,38 +1,38 @@
-//! What is changed of the files of a run, and which calls of its folder and its sink fail.
+//! Changes to the files of a run, and calls of its folder and sink that fail.
 
 use std::alloc::{AllocError as NoMemory, Global};
 
-/// Bytes that are no text.
+/// Bytes that are not UTF-8.
 const NO_TEXT: &[u8] = b"\x00\xff\x9c,\x00\n\xfe\x07";
 
-/// The one thing that is changed.
+/// The one change of a scene.
 #[derive(Clone, Copy)]
 pub enum Change<'a> {
     Nothing,
-    /// The scenario's text has the second in place of the first.
+    /// In the scenario's text, the second string replaces the first.
     Part(&'a str, &'a str),
-    /// The input of this name holds this text.
+    /// The input of this name has this text.
     Holds(&'a str, &'a str),
-    /// The input of this name holds bytes that are no text.
+    /// The input of this name has bytes that are not UTF-8.
     Garbled(&'a str),
-    /// There is no input of this name.
+    /// The input of this name is missing.
     Missing(&'a str),
-    /// There is no input.
+    /// All inputs are missing.
     Bare,
-    /// The folder's call of this number fails.
+    /// The folder's call with this number fails.
     Call(u64),
-    /// The input of this name holds this text, and the folder's call of this number fails.
+    /// The input of this name has this text, and the folder's call with this number fails.
     Stops(&'a str, &'a str, u64),
-    /// The sink's write of this number fails.
+    /// The sink's write with this number fails.
     Write(u64),
-    /// The folder's call of this number and the sink's first write fail.
+    /// The folder's call with this number and the sink's first write fail.
     Mute(u64),
-    /// Each output holds this text before the run, and the folder's call of this number fails.
+    /// Each output has this text before the run, and the folder's call with this number fails.
     Over(&'a str, u64),
 }
 
 impl<'a> Change<'a> {
-    /// What the input of this name holds, where it would hold this text; none where there is no such input.
+    /// Returns the bytes of the input of this name, which has `text` without a change; `None` if the input is missing.
     pub fn held(self, name: &str, text: &'a str) -> Option<&'a [u8]> {
         match self {
             Change::Holds(at, other) if at == name => Some(other.as_bytes()),
@@ -44,7 +44,7 @@ impl<'a> Change<'a> {
         }
     }
 
-    /// The number of the folder's call that fails, if one does.
+    /// Returns the number of the folder's call that fails, if any.
     pub fn failing_call(self) -> Option<u64> {
         match self {
             Change::Call(call)
@@ -55,7 +55,7 @@ impl<'a> Change<'a> {
         }
     }
 
-    /// The number of the sink's write that fails, if one does.
+    /// Returns the number of the sink's write that fails, if any.
     pub fn failing_write(self) -> Option<u64> {
         match self {
             Change::Write(write) => Some(write),
@@ -65,7 +65,7 @@ impl<'a> Change<'a> {
     }
 }
 
-/// The text with one part of it changed. Where there is no such part it's one of which no test speaks.
+/// Returns the text with `part` replaced by `other`; without `part`, a text that no test expects.
 pub fn replaced(alloc: Global, text: &str, part: &str, other: &str) -> Result<String, NoMemory> {
     match text.split_once(part) {
         Some((before, after)) => format!(in alloc; "{before}{other}{after}"),

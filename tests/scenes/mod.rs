@@ -1,10 +1,10 @@
-//! Runs of the whole program over files and a sink in memory, for the tests of its commands.
+//! Runs the whole program over files and a sink in memory, for the tests of its commands.
 //!
-//! A test is a table: a row has what a run is given, and facts of what it leaves, as plain text. So no test holds an auction.
+//! A test is a table. A row has the inputs of a run and the expected facts about the result, as plain text.
 //!
-//! Read `scene` first: a command over the files of one auction, and what is changed of them (`change`). The files of most auctions
-//! are those of three stations (`stations`). `named` has several scenarios beside one another, for commands that take other files.
-//! `outside` makes the folder and the sink and runs the program; `told` and `record_text` tell what is left.
+//! Read `scene` first: a command over the files of one auction, and one change (`change`). Most auctions use the files of three
+//! stations (`stations`). `named` has several scenarios next to one another, for commands with other files. `outside` makes the
+//! folder and the sink and runs the program; `told` and `record_text` describe the result.
 
 pub mod change;
 pub mod named;

@@ -1,5 +1,5 @@
-//! Several scenarios as files of their own names, beside the domains and the rows of three stations, and one file more, as a list or
-//! the beginning of a transcript.
+//! Several scenarios as named files, with the domains and the rows of three stations. One more file may be a list or the beginning
+//! of a transcript.
 
 use crate::scenes::change::Change;
 use crate::scenes::outside::{add, folder_of, is_kept};
@@ -10,10 +10,10 @@ use crate::scenes::told::kept_text;
 use outside_io::memory_folder::MemoryFolder;
 use std::alloc::{AllocError as NoMemory, Global};
 
-// The name of a scenario, and its clock, stations and workers. `plain` has each station's value, and of `high` station 2's is above
-// its first offer. Of `volume` station 3 has the greatest volume. In `low` there is one channel. In `unfit` and `open` all three start
-// on air, which doesn't fit; `short`, as `open`, has a budget of one line, where a refutation takes two. `two` has a worker that learns
-// one line and one that makes one move. `stranger` has a station without a domain row.
+// The name of a scenario, its clock, stations and workers. In `plain` all three have values. In `high` station 2's value is above
+// its opening offer. In `volume` station 3 has the greatest volume. In `low` only one channel is left. In `unfit` and `open` all three
+// start on air, which does not fit; `open` and `short` have a budget of one line, and a refutation takes two. In `two` one worker
+// learns one line and the other makes one move. `stranger` has a station without a domain row.
 const SCENARIOS: &[(&str, &str, &str, &str)] = &[
     ("plain", CLOCK, THREE, MANY_LINES),
     (
@@ -51,14 +51,14 @@ const SCENARIOS: &[(&str, &str, &str, &str)] = &[
     ),
 ];
 
-// The files that are no scenarios. `broken` is no JSON.
+// The files that are not scenarios. `broken` is not JSON.
 const OTHERS: &[(&str, &str)] = &[
     ("d.csv", DOMAINS),
     ("r.csv", ROWS),
     ("broken", "{\"version\":1,"),
 ];
 
-/// The folder of these files and of one more, by its name and its text, with this change.
+/// Returns the folder of these files and one more with this name and text, after this change.
 pub fn named_folder(
     alloc: Global,
     change: Change<'_>,
@@ -77,7 +77,7 @@ pub fn named_folder(
     folder_of(alloc, files, change)
 }
 
-// Whether the scenarios are as they were.
+// Checks whether the scenarios are unchanged.
 fn are_scenarios_kept(
     alloc: Global,
     folder: &MemoryFolder,
@@ -92,14 +92,14 @@ fn are_scenarios_kept(
     Ok(true)
 }
 
-// Whether the files that are no scenarios are as they were.
+// Checks whether the other files are unchanged.
 fn are_others_kept(folder: &MemoryFolder, change: Change<'_>) -> bool {
     OTHERS
         .iter()
         .all(|&(name, text)| is_kept(folder, change, name, text))
 }
 
-/// What became of the files of such a folder: "inputs kept", or "inputs changed".
+/// Returns what happened to the files of this folder: "inputs kept" or "inputs changed".
 pub fn named_text(
     alloc: Global,
     folder: &MemoryFolder,

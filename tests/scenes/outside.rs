@@ -1,4 +1,4 @@
-//! A folder and a sink in memory, and a run of the program over them.
+//! A folder and a sink in memory, and a run of the program on them.
 
 use crate::scenes::change::Change;
 use crate::scenes::told::told;
@@ -10,7 +10,7 @@ use std::alloc::{AllocError as NoMemory, Global};
 use std::sync::Wait;
 use std::thread::Threads;
 
-/// Puts the input of this name, which would hold this text, to the files, where there is one.
+/// Adds the input of this name to the files, unless the change removes it. Without a change the input has `text`.
 pub fn add(
     files: &mut Vec<MemoryFile>,
     change: Change<'_>,
@@ -24,7 +24,7 @@ pub fn add(
     Ok(())
 }
 
-/// Whether the input of this name, which would hold this text, is as it was.
+/// Checks whether the input of this name is unchanged by the run.
 pub fn is_kept(folder: &MemoryFolder, change: Change<'_>, name: &str, text: &str) -> bool {
     match (folder.bytes(name), change.held(name, text)) {
         (Some(now), Some(before)) => now == before,
@@ -33,7 +33,7 @@ pub fn is_kept(folder: &MemoryFolder, change: Change<'_>, name: &str, text: &str
     }
 }
 
-// The list of this number, or of none.
+// Returns the list of this one number, or the empty list.
 fn list_of(alloc: Global, number: Option<u64>) -> Result<Vec<u64>, NoMemory> {
     match number {
         Some(number) => Vec::from_slice(alloc, &[number]),
@@ -41,7 +41,7 @@ fn list_of(alloc: Global, number: Option<u64>) -> Result<Vec<u64>, NoMemory> {
     }
 }
 
-/// The folder of these files, of which the change's call fails.
+/// Returns the folder of these files, whose call fails as the change says.
 pub fn folder_of(
     alloc: Global,
     files: Vec<MemoryFile>,
@@ -51,13 +51,13 @@ pub fn folder_of(
     Ok(MemoryFolder::new(files, failing))
 }
 
-// The sink of which the change's write fails.
+// Returns the sink, whose write fails as the change says.
 fn sink_of(alloc: Global, change: Change<'_>) -> Result<MemorySink, NoMemory> {
     let failing = list_of(alloc, change.failing_write())?;
     MemorySink::new(alloc, 9_999, failing)
 }
 
-// The words of a command line.
+// Returns the words of a command line.
 fn words_of(alloc: Global, line: &str) -> Result<Vec<String>, NoMemory> {
     let mut words = Vec::new(alloc);
     for word in line.split_ascii_whitespace() {
@@ -66,7 +66,7 @@ fn words_of(alloc: Global, line: &str) -> Result<Vec<String>, NoMemory> {
     Ok(words)
 }
 
-/// Runs the program on the words of this line in this folder, and tells the facts of what is left, with "; " between each two.
+/// Runs the program on this command line in this folder. Returns the facts about the result, separated by "; ".
 pub fn run_in<G: Gate + Sync, W: Threads + Wait + Sync>(
     rt: &W,
     alloc: Global,

@@ -1,10 +1,10 @@
-//! The record that a run gives back, as plain text.
+//! The record that a run returns, as plain text.
 
 use auction_core::record::{Ending, Record, Shown, Step};
 use cert_types::answer::Receipt;
 use std::alloc::{AllocError as NoMemory, Global};
 
-// Puts a piece to the end of a list, which has this text between each two pieces.
+// Appends a piece to a list, with `between` before all pieces except the first.
 fn join(list: &mut String, between: &str, piece: &str) -> Result<(), NoMemory> {
     if !list.is_empty() {
         list.push_str(between)?;
@@ -12,12 +12,12 @@ fn join(list: &mut String, between: &str, piece: &str) -> Result<(), NoMemory> {
     list.push_str(piece)
 }
 
-// The list, or that it's none.
+// Returns the list, or "none" if it is empty.
 fn list_text<'a>(list: &'a str) -> &'a str {
     if list.is_empty() { "none" } else { list }
 }
 
-// A receipt: how much was spent, and of what.
+// Returns the text of a receipt: how much was spent, and the unit.
 fn receipt_text(alloc: Global, receipt: &Receipt) -> Result<String, NoMemory> {
     match receipt {
         Receipt::Lines(log) => {
@@ -31,7 +31,7 @@ fn receipt_text(alloc: Global, receipt: &Receipt) -> Result<String, NoMemory> {
     }
 }
 
-// Receipts, in order of worker.
+// Returns the text of receipts, in order of worker.
 fn receipts_text(alloc: Global, receipts: &[Receipt]) -> Result<String, NoMemory> {
     let mut list = String::new(alloc);
     for receipt in receipts {
@@ -41,7 +41,7 @@ fn receipts_text(alloc: Global, receipts: &[Receipt]) -> Result<String, NoMemory
     Ok(list)
 }
 
-// How a test was settled.
+// Returns how a test was decided.
 fn shown_text(alloc: Global, shown: &Shown) -> Result<String, NoMemory> {
     match shown {
         Shown::Empty => String::from_str(alloc, "empty"),
@@ -57,7 +57,7 @@ fn shown_text(alloc: Global, shown: &Shown) -> Result<String, NoMemory> {
     }
 }
 
-// A test, its station behind its round, and how it was settled.
+// Returns the text of a test: the round, the station, and how it was decided.
 fn step_text(alloc: Global, step: &Step) -> Result<String, NoMemory> {
     let round = step.round;
     let station = step.station;
@@ -65,7 +65,7 @@ fn step_text(alloc: Global, step: &Step) -> Result<String, NoMemory> {
     format!(in alloc; "{round}.{station} {shown}")
 }
 
-// The tests, in order.
+// Returns the text of the tests, in order.
 fn steps_text(alloc: Global, steps: &[Step]) -> Result<String, NoMemory> {
     let mut list = String::new(alloc);
     for step in steps {
@@ -75,7 +75,7 @@ fn steps_text(alloc: Global, steps: &[Step]) -> Result<String, NoMemory> {
     Ok(list)
 }
 
-// The stations of a map.
+// Returns the stations of a map.
 fn stations_text(alloc: Global, map: &[(u32, u8)]) -> Result<String, NoMemory> {
     let mut list = String::new(alloc);
     for &(station, _) in map {
@@ -85,7 +85,7 @@ fn stations_text(alloc: Global, map: &[(u32, u8)]) -> Result<String, NoMemory> {
     Ok(list)
 }
 
-// The entries of a map.
+// Returns the entries of a map.
 fn map_text(alloc: Global, map: &[(u32, u8)]) -> Result<String, NoMemory> {
     let mut list = String::new(alloc);
     for &(station, channel) in map {
@@ -95,7 +95,7 @@ fn map_text(alloc: Global, map: &[(u32, u8)]) -> Result<String, NoMemory> {
     Ok(list)
 }
 
-// How an auction ended.
+// Returns how an auction ended.
 fn ending_text(ending: Ending) -> &'static str {
     match ending {
         Ending::Done => "done",
@@ -104,7 +104,7 @@ fn ending_text(ending: Ending) -> &'static str {
     }
 }
 
-// The map of a record.
+// Returns the text of a record's map.
 fn air_text(alloc: Global, map: &[(u32, u8)]) -> Result<String, NoMemory> {
     let list = stations_text(alloc, map)?;
     let stations = list_text(&list);
@@ -113,7 +113,7 @@ fn air_text(alloc: Global, map: &[(u32, u8)]) -> Result<String, NoMemory> {
     format!(in alloc; "on air: {stations}; map: {entries}")
 }
 
-// The start and the tests of a record.
+// Returns the text of a record's start and tests.
 fn tests_text(alloc: Global, record: &Record) -> Result<String, NoMemory> {
     let start = shown_text(alloc, &record.start)?;
     let list = steps_text(alloc, record.steps.as_slice())?;
@@ -121,7 +121,7 @@ fn tests_text(alloc: Global, record: &Record) -> Result<String, NoMemory> {
     format!(in alloc; "start: {start}; tests: {steps}")
 }
 
-// A record.
+// Returns the text of a record.
 fn record_text(alloc: Global, record: &Record) -> Result<String, NoMemory> {
     let ending = ending_text(record.ending);
     let total = record.total;
@@ -130,7 +130,7 @@ fn record_text(alloc: Global, record: &Record) -> Result<String, NoMemory> {
     format!(in alloc; "a record; ending: {ending}; {tests}; {air}; total: {total}")
 }
 
-/// What came back.
+/// Returns the text of the record that the run returned, if any.
 pub fn found_text(alloc: Global, found: &Option<Record>) -> Result<String, NoMemory> {
     match found {
         Some(record) => record_text(alloc, record),
@@ -138,7 +138,7 @@ pub fn found_text(alloc: Global, found: &Option<Record>) -> Result<String, NoMem
     }
 }
 
-/// What came back beside it: how the start test of one channel less was settled.
+/// Returns how the start test with one channel fewer was decided, if there was one.
 pub fn below_text(alloc: Global, below: &Option<Record>) -> Result<String, NoMemory> {
     match below {
         Some(record) => below_told(alloc, record),
@@ -157,7 +157,7 @@ fn below_told(alloc: Global, record: &Record) -> Result<String, NoMemory> {
     }
 }
 
-/// How the auctions of a batch ended, in order.
+/// Returns how the auctions of a batch ended, in order.
 pub fn records_text(alloc: Global, records: &[Record]) -> Result<String, NoMemory> {
     let mut list = String::new(alloc);
     for record in records {

@@ -1,4 +1,4 @@
-//! A command over the files of one auction, the run, and whether it leaves what a row of a table says.
+//! A command over the files of one auction, its run, and the check of its result against a row of a table.
 
 use crate::scenes::change::{Change, replaced};
 use crate::scenes::outside::{add, folder_of, is_kept, run_in};
@@ -13,8 +13,8 @@ use std::alloc::{AllocError as NoMemory, Global};
 use std::sync::Wait;
 use std::thread::Threads;
 
-/// What a run is given: the words with a blank between each two, the texts of two inputs, the parts of the third, an owners' file, a
-/// transcript and a log, if there are such, and a change.
+/// The input of a run: the command line, the texts of two inputs, the parts of the scenario, and a change. An owners' file, a
+/// transcript and a log are optional.
 #[derive(Clone, Copy)]
 pub struct Scene<'a> {
     pub command: &'a str,
@@ -29,7 +29,7 @@ pub struct Scene<'a> {
     pub change: Change<'a>,
 }
 
-/// The run on three stations.
+/// `run` on the three stations.
 pub const RUN: Scene<'static> = Scene {
     command: COMMAND,
     domains: DOMAINS,
@@ -43,7 +43,7 @@ pub const RUN: Scene<'static> = Scene {
     change: Change::Nothing,
 };
 
-// The scenario's text.
+// Returns the scenario's text.
 fn scenario_of(alloc: Global, scene: &Scene<'_>) -> Result<String, NoMemory> {
     let text = scenario_text(alloc, scene.clock, scene.stations, scene.workers)?;
     match scene.change {
@@ -52,7 +52,7 @@ fn scenario_of(alloc: Global, scene: &Scene<'_>) -> Result<String, NoMemory> {
     }
 }
 
-// Puts the outputs of a run before to the files, where there was one.
+// Adds the outputs of an earlier run to the files, if the change has them.
 fn add_outputs(files: &mut Vec<MemoryFile>, change: Change<'_>) -> Result<(), NoMemory> {
     if let Change::Over(text, _) = change {
         add(files, change, "out.csv", text)?;
@@ -62,7 +62,7 @@ fn add_outputs(files: &mut Vec<MemoryFile>, change: Change<'_>) -> Result<(), No
     Ok(())
 }
 
-// The files before the run.
+// Returns the files before the run.
 fn files_of(alloc: Global, scene: &Scene<'_>) -> Result<Vec<MemoryFile>, NoMemory> {
     let scenario = scenario_of(alloc, scene)?;
     let mut files = Vec::new(alloc);
@@ -82,13 +82,13 @@ fn files_of(alloc: Global, scene: &Scene<'_>) -> Result<Vec<MemoryFile>, NoMemor
     Ok(files)
 }
 
-// The folder of a scene.
+// Returns the folder of a scene.
 fn scene_folder(alloc: Global, scene: &Scene<'_>) -> Result<MemoryFolder, NoMemory> {
     let files = files_of(alloc, scene)?;
     folder_of(alloc, files, scene.change)
 }
 
-// Whether the transcript is as it was, where there was one.
+// Checks whether the transcript is unchanged, if there was one.
 fn is_transcript_kept(folder: &MemoryFolder, scene: &Scene<'_>) -> bool {
     match scene.transcript {
         Some(text) => is_kept(folder, scene.change, "tr.txt", text),
@@ -96,7 +96,7 @@ fn is_transcript_kept(folder: &MemoryFolder, scene: &Scene<'_>) -> bool {
     }
 }
 
-// Whether the owners' file is as it was, where there was one.
+// Checks whether the owners' file is unchanged, if there was one.
 fn are_owners_kept(folder: &MemoryFolder, scene: &Scene<'_>) -> bool {
     match scene.owners {
         Some(text) => is_kept(folder, scene.change, "w.csv", text),
@@ -104,7 +104,7 @@ fn are_owners_kept(folder: &MemoryFolder, scene: &Scene<'_>) -> bool {
     }
 }
 
-// Whether the inputs are as they were.
+// Checks whether the inputs are unchanged.
 fn are_kept(alloc: Global, scene: &Scene<'_>, folder: &MemoryFolder) -> Result<bool, NoMemory> {
     let scenario = scenario_of(alloc, scene)?;
     Ok(
@@ -116,7 +116,7 @@ fn are_kept(alloc: Global, scene: &Scene<'_>, folder: &MemoryFolder) -> Result<b
     )
 }
 
-// How many faults the folder has counted, where a call of it fails.
+// Returns how many faults the folder has counted, if a call fails.
 fn counted_text(
     alloc: Global,
     scene: &Scene<'_>,
@@ -128,7 +128,7 @@ fn counted_text(
     }
 }
 
-/// Runs a scene, and tells the facts of what is left, with "; " between each two.
+/// Runs a scene. Returns the facts about the result, separated by "; ".
 pub fn run<W: Threads + Wait + Sync>(
     rt: &W,
     alloc: Global,
@@ -137,7 +137,7 @@ pub fn run<W: Threads + Wait + Sync>(
     run_at(rt, alloc, scene, &EmptyGate)
 }
 
-// Runs a scene whose workers call this gate, and tells the facts of what is left.
+// Runs a scene whose workers call this gate. Returns the facts about the result.
 fn run_at<G: Gate + Sync, W: Threads + Wait + Sync>(
     rt: &W,
     alloc: Global,
@@ -151,7 +151,7 @@ fn run_at<G: Gate + Sync, W: Threads + Wait + Sync>(
     format!(in alloc; "{left}; {inputs}; {files}")
 }
 
-// How many faults were counted, and what the files hold beside the outputs of a run.
+// Returns how many faults were counted, and the contents of the files that are not outputs of `run`.
 fn files_text(alloc: Global, scene: &Scene<'_>, folder: &MemoryFolder) -> Result<String, NoMemory> {
     let counted = counted_text(alloc, scene, folder)?;
     let held = held_text(alloc, folder)?;
@@ -159,8 +159,8 @@ fn files_text(alloc: Global, scene: &Scene<'_>, folder: &MemoryFolder) -> Result
     format!(in alloc; "{counted}; {held}; {proof}")
 }
 
-// Runs the auction of a scene, live where it has an owners' file, and then verifies the transcript that it stored, in the
-// same folder. It tells the facts of what is left.
+// Runs the auction of a scene, live if it has an owners' file. Then verifies the stored transcript in the same folder. Returns the
+// facts about the result.
 fn run_and_verify<W: Threads + Wait + Sync>(
     rt: &W,
     alloc: Global,
@@ -175,7 +175,7 @@ fn run_and_verify<W: Threads + Wait + Sync>(
     run_in(rt, alloc, verify, scene.change, &mut folder, &EmptyGate)
 }
 
-/// Whether the run of a scene leaves what these facts say.
+/// Checks whether the run of a scene has these facts.
 pub fn leaves<W: Threads + Wait + Sync>(
     rt: &W,
     alloc: Global,
@@ -185,7 +185,7 @@ pub fn leaves<W: Threads + Wait + Sync>(
     leaves_at(rt, alloc, scene, &EmptyGate, facts)
 }
 
-/// Whether the run of a scene whose workers call this gate leaves what these facts say.
+/// Checks whether the run of a scene whose workers call this gate has these facts.
 pub fn leaves_at<G: Gate + Sync, W: Threads + Wait + Sync>(
     rt: &W,
     alloc: Global,
@@ -197,7 +197,7 @@ pub fn leaves_at<G: Gate + Sync, W: Threads + Wait + Sync>(
     Ok(are_among(facts, &told))
 }
 
-/// Whether the verification of a scene's own run leaves what these facts say.
+/// Checks whether the verification of a scene's own run has these facts.
 pub fn verifies<W: Threads + Wait + Sync>(
     rt: &W,
     alloc: Global,
@@ -208,7 +208,7 @@ pub fn verifies<W: Threads + Wait + Sync>(
     Ok(are_among(facts, &told))
 }
 
-/// The facts of the first row that says of a run's facts one that isn't so.
+/// Returns the facts of the first row that has a fact which is not true of its run.
 pub fn first_untrue<'a, W: Threads + Wait + Sync>(
     rt: &W,
     alloc: Global,
@@ -222,7 +222,7 @@ pub fn first_untrue<'a, W: Threads + Wait + Sync>(
     Ok(None)
 }
 
-/// The words of the first row whose facts aren't so of their command on the three stations.
+/// Returns the command line of the first row with a fact that is not true of that command on the three stations.
 pub fn first_untrue_words<'a, W: Threads + Wait + Sync>(
     rt: &W,
     alloc: Global,
@@ -237,7 +237,7 @@ pub fn first_untrue_words<'a, W: Threads + Wait + Sync>(
     Ok(None)
 }
 
-/// The facts of the first row that aren't so of this scene with its change.
+/// Returns the facts of the first row that has a fact which is not true of this scene with the row's change.
 pub fn first_untrue_change<'a, W: Threads + Wait + Sync>(
     rt: &W,
     alloc: Global,
@@ -253,7 +253,7 @@ pub fn first_untrue_change<'a, W: Threads + Wait + Sync>(
     Ok(None)
 }
 
-/// Whether `run` and `check` refuse these inputs with this line, and store nothing.
+/// Checks whether `run` and `check` reject these inputs with this line, and store nothing.
 pub fn are_refused<W: Threads + Wait + Sync>(
     rt: &W,
     alloc: Global,

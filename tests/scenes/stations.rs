@@ -1,4 +1,4 @@
-//! Three stations on two channels, as files, the lines of commands over files of these names, and texts of many stations.
+//! The files of three stations on two channels, command lines that use these files, and texts of many stations.
 
 use std::alloc::{AllocError as NoMemory, Global};
 
@@ -14,7 +14,7 @@ pub const SEEK: &str = "repack seek d.csv r.csv s.json chan.csv";
 
 pub const VERIFY_LIVE: &str = "repack verify-live d.csv r.csv s.json w.csv tr.txt";
 
-/// Each station may go on both channels.
+/// Each station may use both channels.
 pub const DOMAINS: &str = "DOMAIN,1,14,15\nDOMAIN,2,14,15\nDOMAIN,3,14,15\n";
 
 /// No two of the stations may share a channel.
@@ -30,25 +30,25 @@ pub const THREE: &str =
 /// Two stations without values, which start on air.
 pub const TWO_PLAIN: &str = "{\"id\":1,\"volume\":1},{\"id\":2,\"volume\":1}";
 
-/// The same of three stations, which do not fit.
+/// Three stations without values, which start on air but do not fit.
 pub const THREE_PLAIN: &str =
     "{\"id\":1,\"volume\":1},{\"id\":2,\"volume\":1},{\"id\":3,\"volume\":1}";
 
-/// A worker that decides each test.
+/// A worker whose budget decides each test.
 pub const MANY_LINES: &str = "{\"kind\":\"cdcl\",\"budget\":1000}";
 
-/// A worker that leaves open that three stations don't fit, which takes two lines.
+/// A worker whose budget of one line leaves a test undecided: a refutation of the three stations takes two lines.
 pub const ONE_LINE: &str = "{\"kind\":\"cdcl\",\"budget\":1}";
 
 /// A transcript of the three stations.
 pub const TRANSCRIPT: &str =
     "transcript 1\nstart empty\nfit 1 1 1\nat 1 14\nfit 1 2 1\nat 2 14\nfit 1 3 1\nat 3 15\nfit 2 1 1\nat 1 15\nlog 2 3 0 2\non 1 2 3\n13 -1 0 7 2 8 3 12 0\n14 0 13 1 9 2 10 3 11 0\nend 5\n";
 
-/// Its last step.
+/// The last step of `TRANSCRIPT`.
 pub const LAST_STEP: &str =
     "log 2 3 0 2\non 1 2 3\n13 -1 0 7 2 8 3 12 0\n14 0 13 1 9 2 10 3 11 0\n";
 
-/// The text of a scenario with this clock, these stations and these workers.
+/// Returns the text of a scenario with this clock, these stations and these workers.
 pub fn scenario_text(
     alloc: Global,
     clock: &str,
@@ -58,7 +58,7 @@ pub fn scenario_text(
     format!(in alloc; "{{\"version\":1,{clock},\"stations\":[{stations}],\"workers\":[{workers}]}}")
 }
 
-/// Domain rows for stations 1 to `count`, each with channel 14 alone.
+/// Returns domain rows for stations 1 to `count`, each with only channel 14.
 pub fn domain_rows(alloc: Global, count: u32) -> Result<String, NoMemory> {
     let mut domains = String::new(alloc);
     for i in 0..count {
@@ -67,7 +67,7 @@ pub fn domain_rows(alloc: Global, count: u32) -> Result<String, NoMemory> {
     Ok(domains)
 }
 
-/// A scenario's stations 1 to `count`, each of volume 1 and worth 0 cents.
+/// Returns a scenario's stations 1 to `count`, each with volume 1 and a value of 0 cents.
 pub fn free_stations(alloc: Global, count: u32) -> Result<String, NoMemory> {
     let mut stations = String::new(alloc);
     for i in 0..count {

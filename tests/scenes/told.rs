@@ -1,4 +1,4 @@
-//! What a run left, as plain text.
+//! The result of a run, as plain text.
 
 use crate::scenes::record_text::{below_text, found_text, records_text};
 use auction_core::record::Record;
@@ -7,7 +7,7 @@ use outside_io::memory_folder::MemoryFolder;
 use outside_io::memory_sink::MemorySink;
 use std::alloc::{AllocError as NoMemory, Global};
 
-// Bytes under a heading; where they are no text, only that.
+// Returns the bytes as text after a heading, or says that they are no text.
 fn bytes_text(alloc: Global, heading: &str, bytes: &[u8]) -> Result<String, NoMemory> {
     match std::str::from_utf8(bytes) {
         Ok(text) => format!(in alloc; "{heading}: {text}"),
@@ -15,7 +15,7 @@ fn bytes_text(alloc: Global, heading: &str, bytes: &[u8]) -> Result<String, NoMe
     }
 }
 
-/// What the file of this name holds.
+/// Returns the text of the file of this name, or says that there is none.
 pub fn file_text(alloc: Global, folder: &MemoryFolder, name: &str) -> Result<String, NoMemory> {
     match folder.bytes(name) {
         Some(bytes) => bytes_text(alloc, name, bytes),
@@ -23,14 +23,14 @@ pub fn file_text(alloc: Global, folder: &MemoryFolder, name: &str) -> Result<Str
     }
 }
 
-// Whether the folder has none of the three outputs.
+// Checks whether the folder has none of the three outputs.
 fn has_no_output(folder: &MemoryFolder) -> bool {
     folder.bytes("out.csv").is_none()
         && folder.bytes("chan.csv").is_none()
         && folder.bytes("tr.txt").is_none()
 }
 
-// Whether an output was stored, or stands there.
+// Returns whether the folder has an output, stored by this run or before.
 fn stored_text(folder: &MemoryFolder) -> &'static str {
     if has_no_output(folder) {
         return "nothing stored";
@@ -38,7 +38,7 @@ fn stored_text(folder: &MemoryFolder) -> &'static str {
     "something stored"
 }
 
-// The outputs.
+// Returns the text of the outputs.
 fn outputs_text(alloc: Global, folder: &MemoryFolder) -> Result<String, NoMemory> {
     let stored = stored_text(folder);
     let result = file_text(alloc, folder, "out.csv")?;
@@ -48,7 +48,7 @@ fn outputs_text(alloc: Global, folder: &MemoryFolder) -> Result<String, NoMemory
     format!(in alloc; "{stored}; {result}; {channels}; {transcript}; {ends}")
 }
 
-// The first two lines of a transcript, and its last one. The lines between are the solvers' own.
+// Returns the first two lines of a transcript and the last one. The lines between depend on the solvers.
 fn ends_text(alloc: Global, bytes: &[u8]) -> Result<String, NoMemory> {
     let text = std::str::from_utf8(bytes).unwrap_or("");
     let mut lines = text.lines();
@@ -58,7 +58,7 @@ fn ends_text(alloc: Global, bytes: &[u8]) -> Result<String, NoMemory> {
     format!(in alloc; "tr.txt begins: {version}, {start}; tr.txt ends: {last}")
 }
 
-// The text that the channels of a map should have.
+// Returns the expected text of the channels of a map.
 fn channels_of(alloc: Global, map: &[(u32, u8)]) -> Result<String, NoMemory> {
     let mut text = String::from_str(alloc, "facility,channel\n")?;
     for &(station, channel) in map {
@@ -68,7 +68,7 @@ fn channels_of(alloc: Global, map: &[(u32, u8)]) -> Result<String, NoMemory> {
     Ok(text)
 }
 
-// Whether the channels are those of the record's map.
+// Returns whether the channels are those of the record's map.
 fn channels_fact(
     alloc: Global,
     folder: &MemoryFolder,
@@ -87,7 +87,7 @@ fn channels_fact(
     Ok("other channels")
 }
 
-// What was said.
+// Returns the text that the program wrote to the sink.
 fn said_text(alloc: Global, sink: &MemorySink) -> Result<String, NoMemory> {
     if sink.bytes().is_empty() {
         return String::from_str(alloc, "nothing said");
@@ -96,7 +96,7 @@ fn said_text(alloc: Global, sink: &MemorySink) -> Result<String, NoMemory> {
     format!(in alloc; "something said; {said}")
 }
 
-// What the folder and the sink hold.
+// Returns what the folder and the sink hold.
 fn outside_text(
     alloc: Global,
     folder: &MemoryFolder,
@@ -107,7 +107,7 @@ fn outside_text(
     format!(in alloc; "{said}; {outputs}")
 }
 
-// The records that came back.
+// Returns the text of the records that the run returned.
 fn records_told(alloc: Global, finish: &Finish) -> Result<String, NoMemory> {
     let found = found_text(alloc, &finish.result)?;
     let below = below_text(alloc, &finish.below)?;
@@ -115,7 +115,7 @@ fn records_told(alloc: Global, finish: &Finish) -> Result<String, NoMemory> {
     format!(in alloc; "{found}; {below}; {records}")
 }
 
-/// The facts of what a run left, with "; " between each two.
+/// Returns the facts about the result of a run, separated by "; ".
 pub fn told(
     alloc: Global,
     finish: &Finish,
@@ -129,7 +129,7 @@ pub fn told(
     format!(in alloc; "status {status}; {outside}; {channels}; {records}")
 }
 
-/// What became of the inputs.
+/// Returns what happened to the inputs.
 pub fn kept_text(are_kept: bool) -> &'static str {
     if are_kept {
         return "inputs kept";
@@ -137,14 +137,14 @@ pub fn kept_text(are_kept: bool) -> &'static str {
     "inputs changed"
 }
 
-/// Whether each of these facts is among those told.
+/// Checks whether each of `facts` is among the facts in `told`.
 pub fn are_among(facts: &str, told: &str) -> bool {
     facts
         .split("; ")
         .all(|fact| told.split("; ").any(|other| other == fact))
 }
 
-// What the file of this name holds, unless it is long.
+// Returns the text of the file of this name, unless the file is long.
 fn short_text(alloc: Global, folder: &MemoryFolder, name: &str) -> Result<String, NoMemory> {
     match folder.bytes(name) {
         Some(bytes) if bytes.len() > 9_999 => format!(in alloc; "{name} is long"),
@@ -152,7 +152,7 @@ fn short_text(alloc: Global, folder: &MemoryFolder, name: &str) -> Result<String
     }
 }
 
-/// What the files of an auction's inputs hold, with "; " between each two.
+/// Returns the texts of an auction's input files, separated by "; ".
 pub fn held_text(alloc: Global, folder: &MemoryFolder) -> Result<String, NoMemory> {
     let domains = short_text(alloc, folder, "d.csv")?;
     let rows = short_text(alloc, folder, "r.csv")?;
@@ -160,14 +160,14 @@ pub fn held_text(alloc: Global, folder: &MemoryFolder) -> Result<String, NoMemor
     format!(in alloc; "{domains}; {rows}; {scenario}")
 }
 
-/// What the files of a formula and of a new transcript hold, with "; " between both.
+/// Returns the texts of a formula's file and a new transcript, separated by "; ".
 pub fn proof_text(alloc: Global, folder: &MemoryFolder) -> Result<String, NoMemory> {
     let formula = short_text(alloc, folder, "f.cnf")?;
     let transcript = short_text(alloc, folder, "new.txt")?;
     format!(in alloc; "{formula}; {transcript}")
 }
 
-/// How many faults the folder has counted.
+/// Returns how many faults the folder has counted.
 pub fn faults_text(alloc: Global, folder: &MemoryFolder) -> Result<String, NoMemory> {
     let text = format!(in alloc; "{folder:?}")?;
     match text.split_once("faults: ") {

@@ -1,12 +1,12 @@
-"""What is whole of the beginning of a transcript, which is cut anywhere."""
+"""The complete part of a transcript that is cut anywhere."""
 
 
 class Cut(Exception):
-    """The text ends before the line that is wanted does."""
+    """The text ends before the end of the wanted line."""
 
 
 class Lines:
-    """The whole lines of a text, one after the other."""
+    """The complete lines of a text, in turn."""
 
     def __init__(self, text):
         self.text, self.at = text, 0
@@ -18,14 +18,14 @@ class Lines:
                 raise Cut
 
     def next(self):
-        """The fields of the next line."""
+        """Returns the fields of the next line."""
         begin = self.at
         self.skip(1)
         return self.text[begin:self.at - 1].split(b" ")
 
 
 def rest_of(lines, fields):
-    """Goes past the lines behind the first one of a step, or of the start."""
+    """Skips the other lines of a step or of the start, after its first line."""
     word = fields[0]
     if word == b"start":
         lines.skip(int(fields[2]) if fields[1] == b"fit" else 0)
@@ -39,7 +39,7 @@ def rest_of(lines, fields):
 
 
 class Kept:
-    """What is whole of a transcript's beginning: where it ends, where each step begins and ends, and whether its end is there."""
+    """The complete part of a transcript's beginning: its size, the bounds of each step, and whether the `end` line is complete."""
 
     def __init__(self, text):
         self.size, self.steps, self.ended = 0, [], False

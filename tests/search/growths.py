@@ -1,4 +1,4 @@
-"""Runs a program with its growths counted, one of them refused where that is asked, and its memory measured (`refuse.c`)."""
+"""Runs a program and counts its growths, refuses one of them on request, and measures its memory (`refuse.c`)."""
 import os
 import pathlib
 import shutil
@@ -9,16 +9,16 @@ import typing
 from subprocess import DEVNULL as NONE, PIPE
 
 SOURCE = pathlib.Path(__file__).resolve().parent / "refuse.c"
-# The numbers that the library keeps, in its order.
+# The numbers of the library, in its order.
 NUMBERS = struct.Struct("6q")
-# The seconds that a run may take.
+# The most seconds of a run.
 LIMIT = 60
 
 
 class Run(typing.NamedTuple):
-    """How a run ended: its status, None where it was ended after a minute, what it printed and what it said on standard error; how
-    many growths it asked for and how many of them were refused; the most bytes of blocks that it held at once, and the most
-    kilobytes of memory that it had."""
+    """How a run ended: its status, or `None` if it was killed after a minute; its standard output and standard error; how many growths
+    it asked for and how many were refused; the most bytes of blocks that it held at once; the most kilobytes of memory that it
+    had."""
 
     status: typing.Optional[int]
     printed: bytes
@@ -30,7 +30,7 @@ class Run(typing.NamedTuple):
 
 
 def compilers():
-    """The commands that may build the library: the system's compiler, and the one of the toolchain beside rt."""
+    """Yields the commands that may build the library: the system's compiler, and the toolchain's compiler, found by `rt`."""
     yield ["cc"]
     rt = shutil.which("rt")
     if rt:
@@ -49,7 +49,7 @@ class Counted:
         sys.exit(f"{SOURCE} can't be built: neither cc nor the toolchain's clang does")
 
     def run(self, command, folder, refuse=0):
-        """Runs a command in a folder with the growth of this number refused, or none where it is 0."""
+        """Runs a command in a folder and refuses the growth of this number, or none if the number is 0."""
         self.numbers.write_bytes(NUMBERS.pack(refuse, 0, 0, 0, 0, 0))
         places = {**os.environ, "LD_PRELOAD": str(self.library), "GROWTHS": str(self.numbers)}
         with subprocess.Popen(command, cwd=folder, env=places, stdin=NONE, stdout=PIPE, stderr=PIPE) as process:

@@ -1,12 +1,14 @@
 """What a run of the program on hostile words and files may answer, print and store.
 
-The words are looked at as the command line is described, apart from the program's own reading of them: status 2 comes exactly
-where they are no command, and an output name that is given twice is reported exactly where it is. Of the files it is looked at
-that the status is one that the command may end with, that what is printed is a line of that status with the right file's
-name, that nothing is stored where nothing may be, and that what is printed and stored at status 0 and 1 agrees with itself.
-Whether a file is rightly refused, or a result is the clock rule's, isn't looked at; but the list of a batch is read here, as it
-is described, so that it is refused exactly where it has to be. Of a beginning it is looked at what is whole of it, where it is
-taken: what is stored has to begin with that.
+This module reads the words itself, as the command line is described. Status 2 must come exactly if they are no command, and an
+output name given twice must be reported exactly if there is one.
+
+The module also checks that the command may end with the status. The printed line must belong to the status and name the right
+file. Nothing may be stored that should not be. At status 0 and 1 the printed and the stored outputs must agree.
+
+The module checks neither that a file is rightly rejected nor that a result is the clock rule's. But it reads the list of a batch
+itself, and the program must reject the list exactly if the module does. It also determines the complete part of a beginning. If the
+program accepts a beginning, what is stored must begin with that part.
 """
 import itertools
 import json
@@ -15,14 +17,14 @@ import re
 
 from beginnings import Kept
 
-# The statuses that each command may end with, except 2, which is of the words, and 8: there is memory enough.
+# The statuses of each command, except 2, which depends on the words, and 8: memory is ample.
 STATUSES = {
     "run": {0, 1, 3, 4, 5, 6, 7}, "live": {0, 1, 3, 4, 5, 6, 7}, "check": {0, 3, 5}, "verify": {0, 1, 3, 5, 9},
     "verify-live": {0, 1, 3, 5, 9}, "resume": {0, 1, 3, 4, 5, 6, 7, 9}, "seek": {0, 1, 3, 4, 5, 6, 7}, "make": {0, 1, 4, 5},
     "batch": {0, 1, 3, 4, 5, 11},
 }
-# The inputs of each command, in the order of their names, and how many outputs stand behind them; of `make` behind two numbers.
-# Those of a batch stand in its list.
+# The inputs of each command, in the order of their names, and the number of outputs after them. `make` has two numbers before its
+# outputs. The outputs of a batch are in its list.
 AUCTION = ("domains", "rows", "scenario")
 INPUTS = {
     "run": AUCTION, "live": (*AUCTION, "owners"), "check": AUCTION, "verify": (*AUCTION, "transcript"),
@@ -48,7 +50,7 @@ TOPS = re.compile(rb"top (\d+)\n(undecided (\d+)\n)?")
 COUNTS = re.compile(rb"stations \d+\npairs \d+\nself-pairs \d+\nstrangers \d+\n")
 RESULT = re.compile(rb"facility,outcome,round,price\n(\d+,(start,0,0|exit,[1-9]\d*,0|(frozen|undecided),[1-9]\d*,\d+)\n)*")
 CHANNELS = re.compile(rb"facility,channel\n(\d+,[1-5]\d\n)*")
-# A field of a line of a list: in quotes, which its line's end closes too, and what follows them, up to the field's end.
+# A field of a line of a list: a quoted part and the rest up to the field's end. The line's end also closes the quotes.
 FIELD = re.compile(rb'(?:"((?:[^"]|"")*)(?:"|\Z))?([^,\r]*)(,|\r|\Z)')
 # The end of a line that names a step.
 UNSHOWN = re.compile(rb": step (\d+): (order|not valid)\n\Z")
@@ -57,22 +59,22 @@ MOST_LISTED = 256
 
 
 class Wrong(Exception):
-    """A run that ended as none may."""
+    """A run with a forbidden end."""
 
 
 def need(so, what):
-    """Fails with this where it isn't so."""
+    """Fails with `what` unless `so` holds."""
     if not so:
         raise Wrong(what)
 
 
 def whole(word, most):
-    """The number of a word, from 0 up to the most, or None."""
+    """Returns the number that a word is, from 0 to `most`, or `None`."""
     return int(word) if re.fullmatch(r"\+?[0-9]{1,5000}", word) and int(word.lstrip("+0")[:30] or 0) <= most else None
 
 
 class Order:
-    """The command that words are: its name, its inputs and its outputs, and of `make` the number of stations."""
+    """The command that words are: its name, its inputs and its outputs, and for `make` the number of stations."""
 
     def __init__(self, words):
         self.name = words[0]
@@ -82,13 +84,13 @@ class Order:
         self.inputs, self.outputs = words[1 + first : 1 + middle], words[1 + middle :]
 
     def twice(self):
-        """The first output name that equals another name, or None."""
+        """Returns the first output name that equals another name, or `None`."""
         names = self.inputs + self.outputs
         return next((name for name in self.outputs if names.count(name) > 1), None)
 
 
 def order_of(words):
-    """The command that these words are, or None."""
+    """Returns the command that these words are, or `None`."""
     if not words or words[0] not in STATUSES or any("\udc80" <= c <= "\udcff" for word in words for c in word):
         return None
     name, *rest = words
@@ -104,12 +106,12 @@ def order_of(words):
 
 
 def is_plain(name):
-    """Whether a name is one of a file in the folder, which can be stored."""
+    """Checks whether a name is the name of a file in the folder, and can be stored."""
     return name not in ("", ".", "..") and not set("/\0") & set(name) and len(os.fsencode(name)) <= LONGEST
 
 
 def told(order, status, before):
-    """The lines of a status from 3 to 9, as pairs of a pattern and the file whose lines it may count."""
+    """Returns the lines of a status from 3 to 9: pairs of a pattern and the file whose lines the number may count."""
     names = [os.fsencode(name) for name in order.inputs]
     if status == 3:
         return [(b"cannot read " + re.escape(os.fsencode(name)), None) for name in order.inputs if name not in before][:1]
@@ -125,7 +127,7 @@ def told(order, status, before):
 
 
 def is_told(printed, lines, before):
-    """Whether what is printed is one of these lines, and counts no more lines than the file has, and the one behind it."""
+    """Checks whether the output is one of these lines. A line number may be at most the file's number of lines, plus one."""
     for pattern, name in lines:
         found = re.fullmatch(pattern + b"\n", printed)
         if found:
@@ -135,7 +137,7 @@ def is_told(printed, lines, before):
 
 
 def look_at_line(order, status, printed, before):
-    """What is printed at a status from 3 to 9."""
+    """Checks the output at a status from 3 to 9."""
     twice = order.twice()
     if twice is not None:
         need(status == 5 and printed == os.fsencode(twice) + b": given twice\n", f"{twice!r} is given twice")
@@ -144,7 +146,7 @@ def look_at_line(order, status, printed, before):
 
 
 def look_at_result(text):
-    """The numbers of stations, on air, frozen and undecided, and the total, of a text of RESULT."""
+    """Returns the numbers of stations, on air, frozen and undecided, and the total, of a text of RESULT."""
     need(RESULT.fullmatch(text), "no text of RESULT")
     rows = [line.split(b",") for line in text.splitlines()[1:]]
     stations = [int(row[0]) for row in rows]
@@ -155,7 +157,7 @@ def look_at_result(text):
 
 
 def look_at_top(order, status, printed, after):
-    """What `seek` prints and stores: a top channel, the one below it where its test was left open, and channels up to it."""
+    """Checks what `seek` prints and stores: a top channel, the channel below if its test is undecided, and channels up to the top."""
     found = TOPS.fullmatch(printed)
     need(found, "no top channel")
     top, below = int(found[1]), found[3]
@@ -168,7 +170,7 @@ def look_at_top(order, status, printed, after):
 
 
 def look_at_end(order, status, printed, after):
-    """What is printed and stored at status 0 and 1."""
+    """Checks what is printed and stored at status 0 and 1."""
     if order.name == "check":
         need(COUNTS.fullmatch(printed), "no counts")
         return
@@ -193,8 +195,8 @@ def look_at_end(order, status, printed, after):
 
 
 def look_at_beginning(order, status, printed, before, after):
-    """What `resume` stores of what is whole of its beginning, and says of it; nothing where a line of it is refused, or it wasn't
-    come to."""
+    """Checks what `resume` stores and reports of the complete part of its beginning. Checks nothing if a line is rejected or the
+    beginning was not read."""
     unshown = UNSHOWN.search(printed) if status == 9 else None
     if unshown is None and status not in (0, 1, 6, 7):
         return
@@ -215,7 +217,7 @@ def look_at_beginning(order, status, printed, before, after):
 
 
 def records(line):
-    """The records of a line of a list, each of them its fields."""
+    """Returns the records of a line of a list, each a list of fields."""
     line, rows, at, end = line.removeprefix(MARK), [[]], 0, None
     while end != b"":
         found = FIELD.match(line, at)
@@ -228,7 +230,7 @@ def records(line):
 
 
 def is_utf8(text):
-    """Whether these bytes are UTF-8."""
+    """Checks whether these bytes are UTF-8."""
     try:
         text.decode()
     except UnicodeDecodeError:
@@ -237,7 +239,7 @@ def is_utf8(text):
 
 
 def list_of(text):
-    """The lines of a list, as pairs of the names of a scenario and of a result, and why it is refused, or None."""
+    """Returns the lines of a list, as pairs of a scenario's and a result's name, and the reason for a rejection, or `None`."""
     pairs = []
     for number, line in enumerate(text.split(b"\n"), 1):
         for record in records(line):
@@ -248,13 +250,13 @@ def list_of(text):
 
 
 def file_of(name):
-    """The name of the file in the folder that a name is of."""
+    """Returns the name of the file in the folder that a path names."""
     return re.sub(r"\A(\./+)+", "", name)
 
 
 class Batch:
-    """What a batch reads: the pairs of its list, the line of its refusal or of a result that is given twice, or None, the names
-    of the files that are there, in order, up to the first that isn't, and this one, or None."""
+    """What a batch reads. `pairs` is its list, and `refusal` the line that rejects the list or names a result given twice, or `None`.
+    `there` has the existing files, in order, up to the first missing one, which is `missing`, or `None`."""
 
     def __init__(self, words, before):
         at = os.fsencode(words[2])
@@ -267,7 +269,7 @@ class Batch:
         self.missing = names[len(self.there)] if len(self.there) < len(names) else None
 
     def told(self, status):
-        """The lines of the statuses 3 and 5, as pairs of a pattern and the file whose lines it may count."""
+        """Returns the lines of the statuses 3 and 5: pairs of a pattern and the file whose lines the number may count."""
         if status == 3:
             return [(b"cannot read " + re.escape(os.fsencode(self.missing)), None)]
         patterns = [DOMAIN_ROW, LINES["rows"], None, *[LINES["scenario"]] * len(self.pairs)]
@@ -280,7 +282,7 @@ class Batch:
 
 
 def own_statuses(batch, status, printed):
-    """The status of each of a batch's auctions, as they are printed."""
+    """Returns the printed status of each auction of a batch."""
     *lines, rest = printed.split(b"\n")
     need(rest == b"" and len(lines) == len(batch.pairs), "not a line for each line of the list")
     told = [line.rpartition(b" ") for line in lines]
@@ -293,7 +295,7 @@ def own_statuses(batch, status, printed):
 
 
 def look_at_stored(batch, own, before, after):
-    """The files that are stored of the auctions with these statuses: those of the ones that were carried through."""
+    """Checks which files are stored for auctions with these statuses: those of the finished ones."""
     stored = {file_of(result): (scenario, status) for (scenario, result), status in zip(batch.pairs, own) if status < 2}
     for name, (scenario, status) in stored.items():
         need(name in after and after[name] != before.get(name), f"{name!r} isn't stored")
@@ -305,8 +307,7 @@ def look_at_stored(batch, own, before, after):
 
 
 def may_store(batch, case, printed):
-    """The pairs whose results may be stored at status 4: those before the one that the line names, or all where the output is
-    full."""
+    """Returns the pairs whose results may be stored at status 4: those before the one in the line, or all if the output is full."""
     if case.full:
         return batch.pairs
     bad = [at for at, (_, result) in enumerate(batch.pairs) if not is_plain(file_of(result))]
@@ -316,7 +317,7 @@ def may_store(batch, case, printed):
 
 
 def look_at_batch(case, words, status, printed, after):
-    """Fails where a batch may not have ended so."""
+    """Fails if a batch may not end like this."""
     before, batch = case.files, Batch(words, case.files)
     need(status in ({3, 4, 5} if case.full else STATUSES["batch"]), "no status of this command, with memory enough")
     wanting = batch.refusal or batch.missing
@@ -336,7 +337,7 @@ def look_at_batch(case, words, status, printed, after):
 
 
 def may_change(order, status, printed):
-    """The names that may be new or changed, and how many of these have to be there."""
+    """Returns the names that may be new or changed, and how many of them must exist."""
     if order is None or status not in (0, 1, 4):
         return [], 0
     bad = next((i for i, name in enumerate(order.outputs) if not is_plain(name)), len(order.outputs))
@@ -344,7 +345,7 @@ def may_change(order, status, printed):
 
 
 def look_at(case, status, printed, said, after):
-    """Fails where a run may not have ended so. `said` is what stands on standard error."""
+    """Fails if a run may not end like this. `said` is the standard error."""
     order = order_of(case.words)
     need(status >= 0, f"ended by signal {-status}")
     need(not said, f"on standard error: {said[:200]!r}")

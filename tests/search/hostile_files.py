@@ -1,10 +1,11 @@
-"""Sound inputs of the program, and how they are made hostile.
+"""Valid inputs of the program, and how they are made hostile.
 
-A set holds the texts of an auction's three input files, of a transcript of it, and of what its owners say who follow their
-values. Most transcripts are those that the program writes; some are written here, with steps that few auctions have. A draw of a
-stream makes one or more of a set's texts hostile, or all the words that go with them. The files of a batch are drawn from the
-sets: the constraint files of one, scenarios that are variants of its own or another's, and a list. The beginning that an auction
-goes on from is mostly a set's transcript, cut anywhere, and its scenario may be a variant of that set's.
+A set holds the texts of an auction's three input files, its transcript, and its owners' answers, which follow the values. Most
+transcripts come from the program. A few are written here, with rare kinds of steps.
+
+A pseudorandom draw makes one or more of a set's texts hostile, or the words of a run. The files of a batch are drawn from the sets:
+the constraint files of one, variants of its own or another's scenarios, and a list. The beginning of a resumed
+auction is mostly a set's transcript, cut anywhere. Its scenario may be a variant of that set's.
 """
 import json
 import re
@@ -18,19 +19,19 @@ LIST = "list.csv"
 NAMES = (*INPUTS, TRANSCRIPT)
 FILES = (*NAMES, OWNERS)
 MADE = (1, 5, 16)
-# The greatest budget that a hostile scenario of `run` keeps, except the sound ones and one in fifty others.
+# The greatest budget of a hostile scenario of `run`. Valid scenarios, and one in fifty others, may have more.
 TAME = 1000
 SOUND_BUDGETS = (b"1000", b"100000")
 
 FITS = "start empty\nfit 1 1 1\nat 1 14\nfit 1 2 1\nat 2 14\nfit 1 3 1\nat 3 15\nfit 2 1 1\nat 1 15\n"
 PROOF = "13 -1 0 7 2 8 3 12 0\n14 0 13 1 9 2 10 3 11 0\n"
-# Transcripts of the three stations, with steps of each kind that settles one.
+# Transcripts of the three stations, with one step of each kind that decides a test.
 OF_THREE = {
     "log": f"transcript 1\n{FITS}log 2 3 0 2\non 1 2 3\n{PROOF}end 5\n",
     "outside": f"transcript 2\n{FITS}outside 2 3 2\n{PROOF}end 5\n",
     "spent": f"transcript 2\n{FITS}undecided 2 3 2\nlines 0 1\n13 -1 0 7 2 8 3 12 0\nmoves 1 1\nmove 3 15\nend 5\n",
 }
-# Auctions of one and two stations: one has no channel, the other one interferes with the first on the only channel.
+# Auctions of one and two stations. In one the station has no channel; in the other the stations interfere on their only channel.
 SMALL = {
     "none": (
         "DOMAIN,1,40\n",
@@ -51,23 +52,23 @@ SMALL = {
 
 
 class Faulty(Exception):
-    """The program doesn't do what is asked of it."""
+    """The program does not do what is asked."""
 
 
 def read(folder, names):
-    """The files of a folder, by name."""
+    """Returns the files of a folder, by name."""
     return {name: (folder / name).read_bytes() for name in names}
 
 
 def ran(program, folder, *words):
-    """Runs the program in a folder, where it has to end with status 0 or 1."""
+    """Runs the program in a folder. The status must be 0 or 1."""
     done = subprocess.run([program, *words], cwd=folder, stdout=subprocess.PIPE)
     if done.returncode not in (0, 1):
         raise Faulty(f"{folder}: {' '.join(words)}: status {done.returncode}: {done.stdout.decode()}")
 
 
 def prices(scenario):
-    """The prices of a scenario, from the opening to the last fall."""
+    """Yields the prices of a scenario, from the opening price to the last one."""
     price = opening = scenario["opening"]
     yield price
     if scenario["version"] == 1:
@@ -83,15 +84,15 @@ def prices(scenario):
 
 
 def said(scenario):
-    """What the owners of a scenario's stations say who stay while the offer is at least the value."""
+    """Returns the answers of a scenario's owners, who stay while the offer is at least the value."""
     bids = [(station["id"], station["volume"], station["value"]) for station in scenario["stations"] if station.get("value") is not None]
     lines = [f"{r},{s},stay\n" for r, price in enumerate(prices(scenario)) for s, volume, value in bids if value <= price * volume]
     return "".join(lines).encode()
 
 
 def add(program, top, name, texts, transcript=None):
-    """Writes a sound set, with the transcript that is given or that of its auction, and has it verified, also as that of the live
-    auction in which the owners follow their values."""
+    """Writes a valid set, with the given transcript or that of the set's auction. Has the transcript verified, also as one of the live
+    auction whose owners follow the values."""
     folder = top / name
     folder.mkdir(exist_ok=True)
     for file, text in zip(INPUTS, texts):
@@ -106,13 +107,13 @@ def add(program, top, name, texts, transcript=None):
 
 
 def spent(scenario, top, budget=1):
-    """A scenario with this top channel and a worker of each kind, of a budget so small that some tests are left undecided."""
+    """Returns a scenario with this top channel and a worker of each kind, whose budgets leave some tests undecided."""
     workers = [{"kind": "cdcl", "budget": budget}, {"kind": "walk", "budget": budget}]
     return json.dumps({**json.loads(scenario), "workers": workers, "top": top}).encode()
 
 
 def make_sound(program, examples, top):
-    """Writes the sound sets, a folder each."""
+    """Writes the valid sets, one folder each."""
     three = [(examples / "three-stations" / name).read_bytes() for name in INPUTS]
     thirty = read(examples / "verified", NAMES)
     add(program, top, "three", three)
@@ -157,23 +158,23 @@ LIES = [
 
 
 def place(draw, text):
-    """A place in a text, its end too."""
+    """Returns a position in a text, or its end."""
     return draw.randrange(len(text) + 1)
 
 
 def span(draw, text):
-    """Two places of a text, the second not before the first and mostly near to it."""
+    """Returns two positions in a text, the second at or after the first and mostly near."""
     start = place(draw, text)
     return start, min(len(text), start + int(draw.expovariate(1 / 40)))
 
 
 def put(text, start, end, middle):
-    """The text with this in the place of a span."""
+    """Returns the text with `middle` in place of a span."""
     return text[:start] + middle + text[end:]
 
 
 def bytes_of(draw):
-    """Some random bytes."""
+    """Returns some pseudorandom bytes."""
     return draw.randbytes(1 + int(draw.expovariate(1 / 4)))
 
 
@@ -237,12 +238,12 @@ def begun_by_mark(_, text, __):
 
 
 def unvalued(draw, text, _):
-    """A scenario in which some stations, from the first on, have no value."""
+    """Returns a scenario in which some stations, from the first on, have no value."""
     return text.replace(b'"value"', b'"worth"', draw.choice((1, 2, 3, -1)))
 
 
 def of_lines(change):
-    """A mutation of a text's list of lines."""
+    """Returns a mutation of a text's list of lines."""
 
     def changed(draw, text, other):
         lines = text.split(b"\n")
@@ -275,7 +276,7 @@ def lie(draw, lines, _):
 
 
 def at_token(pattern, choose):
-    """A mutation that puts something in the place of one of a text's matches."""
+    """Returns a mutation that replaces one match in a text."""
     found = re.compile(pattern)
 
     def changed(draw, text, other):
@@ -289,24 +290,24 @@ def at_token(pattern, choose):
 
 
 def near(draw, number, _):
-    """A number near this one."""
+    """Returns a number near this one."""
     return str(int(number[:30]) + draw.choice((-2, -1, 1, 2, 10))).encode()
 
 
 def same_kind(draw, _, text):
-    """Another number of the text."""
+    """Returns another number of the text."""
     return draw.choice(re.findall(rb"\d+", text))
 
 
 def nest(draw, token, _):
-    """A value deep within others."""
+    """Returns a deeply nested value."""
     depth = draw.choice((1, 2, 100, 126, 127, 128, 129, 5000, 100_000))
     left, right = draw.choice(((b"[", b"]"), (b'{"a":', b"}")))
     return left * depth + token + right * draw.choice((depth, depth, 0))
 
 
 NUMBER, TOKEN = rb"-?\d+", rb'[^\s,:\[\]{}]+'
-# Those that leave most texts in form, so that the auction and the check of its steps meet them.
+# Mutations after which most texts are still well-formed, and which therefore reach the auction and the check of its steps.
 MILD = [
     *[at_token(NUMBER, near), at_token(rb"\d+", same_kind)] * 3,
     unvalued,
@@ -323,7 +324,7 @@ HARSH = [
 
 
 def tamed(draw, scenario):
-    """A scenario whose budgets are small, that a run ends soon; one in fifty stays."""
+    """Returns a scenario with small budgets, so that its run ends soon; one in fifty is unchanged."""
     if draw.randrange(50) == 0:
         return scenario
 
@@ -348,25 +349,25 @@ def hostile(draw, files, others, weights):
         del files[draw.choice(list(files))]
 
 
-# The names of a batch's scenarios and results, of a number: most are plain, and some stand in quotes in the list.
+# The numbered names of a batch's scenarios and results. Most are plain, and some are in quotes in the list.
 PLAIN = ("{}.json", "{}.csv")
 SCENARIOS = [*[PLAIN[0]] * 8, "scenario {}.json", "{},x.json", "\u00e9{}.json", '"{}".json', "{}\r.json", "-{}", "x 6\r{}"]
 RESULTS = [
     *[PLAIN[1]] * 8, "result {}.csv", "{},x.csv", "\u00e9{}.csv", '{}"x".csv', "{}\r.csv", "-{}.csv", "./{}.csv", ".//./{}",
 ]
-# Names that no file may have, or that none has.
+# Names that no file may have, or that no file has.
 NOWHERE = [
     b"", b".", b"..", b"/", b"./", b"nowhere", b"nowhere/x", b"x" * 255, b"x" * 256, b"-", b"--", b"a\0b", b"/dev/null/x",
     b"x/..",
 ]
-# Names that aren't UTF-8.
+# Names that are not UTF-8.
 BROKEN = [b"\xff", b"x\xc3", b"\xed\xa0\x80.csv", b"\xc0\x80", b"\xf4\x90\x80\x80", b"x\x80y"]
-# What may stand at the end of a line of a list.
+# The possible ends of a line of a list.
 ENDS = [
     *[b"\n"] * 8, b"\r\n", b"\n\n", b" \t\n", b",,\n", b" , ,\n", b"\r", b"\r\r\n", b"\n , \n", b'\n""\n', b',""\n',
     b"\n\xef\xbb\xbf",
 ]
-# Lines of a list, of which most are refused.
+# Lines of a list, most of them invalid.
 LISTED = [
     b"0.json", b"0.json,", b"0.json,x,y", b"0.json,,x", b",x", b"# 0.json,x", b"0.json;x", b'"0.json,x', b'0.json,"x',
     b'"0.json"x,y', b'0.json,x"', b' "0.json",x',
@@ -383,12 +384,12 @@ WORKERS = [
     [{"kind": "walk", "budget": 99}, {"kind": "cdcl", "budget": 99}],
 ]
 VALUES = [None, 0, 1, 50, 1000, 10**6, 10**15]
-# Of so many batches one has some 256 lines.
+# One batch in this many has about 256 lines.
 LONG = 60
 
 
 def varied(draw, text):
-    """A sound scenario of some of a sound scenario's stations."""
+    """Returns a valid scenario with some of a valid scenario's stations."""
     told = json.loads(text)
     for _ in range(draw.randrange(5)):
         change = draw.randrange(6)
@@ -411,8 +412,8 @@ def varied(draw, text):
 
 
 def make_beginning(draw, files, sound):
-    """Makes the transcript a beginning, in place: mostly it is cut anywhere, now and then empty, one of another set, no transcript at
-    all, whole, or whole with some bytes behind it. The scenario is now and then a variant, or has other workers alone."""
+    """Replaces the transcript by a beginning, in place. Mostly the transcript is cut anywhere. Sometimes it is empty, another set's, no
+    transcript, complete, or complete with extra bytes. The scenario is sometimes a variant, or has other workers."""
     kind, text = draw.randrange(24), files[TRANSCRIPT]
     if kind == 0:
         text = draw.choice((b"", draw.randbytes(draw.randrange(200))))
@@ -429,14 +430,14 @@ def make_beginning(draw, files, sound):
 
 
 def field(draw, name):
-    """A name as a field of a list, in quotes where it has to be and now and then."""
+    """Returns a name as a field of a list, in quotes if necessary and sometimes anyway."""
     if b'"' in name or b"," in name or b"\r" in name or draw.randrange(8) == 0:
         name = b'"' + name.replace(b'"', b'""') + b'"'
     return name + draw.choice((b"", b"", b"", b"", b" ", b"\t"))
 
 
 def change_pair(draw, pairs):
-    """Makes a line of a list hostile, by one of its names."""
+    """Makes a line of a list hostile, through one of its names."""
     names = [name for pair in pairs for name in pair] + [name.encode() for name in (*INPUTS[:2], LIST)]
     pair, change = draw.choice(pairs), draw.randrange(7)
     if change == 0:
@@ -450,7 +451,7 @@ def change_pair(draw, pairs):
 
 
 def change_list(draw, text, other):
-    """A list that is made hostile, by a line of another kind or as any text."""
+    """Returns a hostile list, with a line of another kind or changed like any text."""
     lines = text.split(b"\n")
     change = draw.randrange(12)
     if change == 0:
@@ -462,13 +463,13 @@ def change_list(draw, text, other):
 
 
 def listed(draw, names):
-    """The pairs of a list: each of these names of scenarios with that of a result, and now and then some 256 of them."""
+    """Returns the pairs of a list: each of these scenario names with a result name, and sometimes about 256 of them."""
     names = draw.choices(names, k=draw.randrange(255, 259)) if draw.randrange(LONG) == 0 else names
     return [[name.encode(), draw.choice(RESULTS).format(number).encode()] for number, name in enumerate(names)]
 
 
 def hostile_batch(draw, sound):
-    """The files of a batch of two to six auctions, some of them hostile."""
+    """Returns the files of a batch of two to six auctions, some of them hostile."""
     own, others = draw.choice(sound), list(draw.choice(sound).values())
     files = {name: own[name] for name in INPUTS[:2]}
     names = [draw.choice(SCENARIOS).format(number) for number in range(draw.randrange(2, 7))]

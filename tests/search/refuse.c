@@ -1,9 +1,9 @@
-/* Counts a program's growths, refuses one of them, and measures the memory that it holds.
+/* Counts a program's growths, refuses one of them, and measures the memory that the program holds.
 
-   Put before the C library by LD_PRELOAD, it stands between the program and malloc, realloc and free. Each malloc and realloc
-   is a growth, numbered from 1 in the order of their coming; the one of number `refuse` is answered by null, and all others go
-   through. The numbers stand in the file that GROWTHS names, which the caller makes, so that they are there however the program
-   ends. It needs glibc, and no header, since the toolchain's clang has none. */
+   LD_PRELOAD puts this library before the C library, between the program and malloc, realloc and free. Each malloc and realloc is
+   a growth, numbered from 1 in order. The growth with the number `refuse` gets null, and all others succeed. The numbers are in
+   the file that GROWTHS names. The caller makes this file, and the numbers are available however the program ends. The library
+   needs glibc, and no header, since the toolchain's clang has none. */
 typedef unsigned long size_t;
 
 extern void *__libc_malloc(size_t);
@@ -18,8 +18,8 @@ extern void abort(void) __attribute__((noreturn));
 
 enum { READ_ONLY = 0, READ_WRITE = 2, READABLE_WRITABLE = 3, SHARED = 1, EXIT_GROUP = 231 };
 
-/* As the caller reads them: the number to refuse (0: none), the growths so far, how many of them were refused, the bytes of the
-   blocks held now and at most so far, and the kilobytes of memory that the process had at most, once it ends. */
+/* The numbers in the order of the caller. `refuse` is the growth to refuse (0: none). `growths` and `refused` count so far. `held` and
+   `most` are the bytes of blocks held now and at most. `peak` is the most kilobytes of the process, set at its end. */
 static volatile struct { long refuse, growths, refused, held, most, peak; } *told;
 
 static long add(volatile long *number, long more) {
@@ -63,7 +63,7 @@ void free(void *block) {
     __libc_free(block);
 }
 
-/* The program ends by this call, so the peak is looked up here. */
+/* The program ends by this call, and the peak is read here. */
 void _exit(int status) {
     char text[4096] = "";
     int file = open("/proc/self/status", READ_ONLY);

@@ -1,4 +1,4 @@
-//! What the solvers answer, and the trail that they search on.
+//! Answers of the solvers, and the trail that they search on.
 
 mod learners;
 mod looks;

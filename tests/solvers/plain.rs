@@ -8,18 +8,18 @@ use plain_pack::search::fits;
 use std::alloc::{AllocError, Global};
 use std::test::Fail;
 
-// A station that may use these channels.
+// Returns the domain of a station that may use these channels.
 fn station_on(alloc: Global, station: u32, channels: &[u8]) -> Result<Domain, AllocError> {
     let channels = Items::from_vec(Vec::from_slice(alloc, channels)?);
     Ok(Domain { station, channels })
 }
 
-// Two stations that may not both use this channel.
+// Returns the pair of two stations that may not both use this channel.
 fn apart(f: u32, g: u32, c: u8) -> Pair {
     Pair { f, a: c, g, b: c }
 }
 
-// Three stations on channels 14 and 15, of which no two may share one.
+// Returns the book of three stations on channels 14 and 15, no two of which may share one.
 fn three_stations(alloc: Global) -> Result<Book, AllocError> {
     let domains = [
         station_on(alloc, 1, &[14, 15])?,

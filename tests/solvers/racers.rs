@@ -1,4 +1,4 @@
-//! Tests of both kinds of solver through the one gate.
+//! Both kinds of solver through `RacerKind`.
 
 use cert_types::answer::{Answer, Receipt, Refutation};
 use cert_types::certify::certify;
@@ -33,7 +33,7 @@ impl Poll for First {
     }
 }
 
-// What `certify` let through of a solver. `Wrong`: it let nothing through, the task is no query, or memory ran out.
+// The answer that `certify` accepted from a solver. `Wrong`: `certify` accepted none, the task is no query, or memory ran out.
 #[derive(Clone, Copy, Debug, PartialEq, Eq)]
 enum Said {
     Fit,
@@ -44,13 +44,13 @@ enum Said {
     Wrong,
 }
 
-// A station that may use channel 14.
+// Returns the domain of a station that may use only channel 14.
 fn on_14(alloc: Global, station: u32) -> Result<Domain, NoMemory> {
     let channels = Items::from_vec(Vec::from_slice(alloc, &[14])?);
     Ok(Domain { station, channels })
 }
 
-// Stations 7 and 8 on channel 14, which they may not share.
+// Returns the book of stations 7 and 8 on channel 14, which they may not share.
 fn two_stations(alloc: Global) -> Result<Book, NoMemory> {
     let pair = Pair {
         f: 7,
@@ -62,7 +62,7 @@ fn two_stations(alloc: Global) -> Result<Book, NoMemory> {
     Book::build(alloc, 14, &[7, 8], &domains, &[pair])
 }
 
-// Query 1, whether station 8 fits beside the others of a set while these channels stand.
+// Returns query 1: whether station 8 fits beside the others of the set, given their last channels.
 fn task(alloc: Global, set: &[u32], last: &[(u32, u8)]) -> Result<Task, NoMemory> {
     Ok(Task {
         number: 1,
@@ -73,7 +73,7 @@ fn task(alloc: Global, set: &[u32], last: &[(u32, u8)]) -> Result<Task, NoMemory
     })
 }
 
-// What a solver says of a query, checked by `certify` for this worker.
+// Returns a solver's answer to a query, checked by `certify` for this worker.
 fn attempted<R: Racer>(
     alloc: Global,
     racer: &mut R,
@@ -107,7 +107,7 @@ fn kind_of(answer: &Answer) -> Said {
     }
 }
 
-// What the solver of a worker of this kind says of the test of station 8, and what the one whose proofs may be long says.
+// Returns the answers of two solvers of this kind to the test of station 8. The second may report long proofs.
 fn of_kind(
     alloc: Global,
     kind: Kind,

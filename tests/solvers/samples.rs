@@ -1,4 +1,4 @@
-//! Books and queries that the tests of several solvers are made of.
+//! Books and queries for the tests of several solvers.
 
 use cert_types::task::Task;
 use constraint_files::domains::read_domains;
@@ -10,12 +10,12 @@ use pack_defs::items::Items;
 use pack_defs::limits::MOST_STATIONS;
 use std::alloc::{AllocError as NoMemory, Global};
 
-// Query 5, about these stations, while these channels stand. It tests none of them alone.
+// Returns query 5 about these stations, with these last channels and no tested station.
 pub(crate) fn task(alloc: Global, set: &[u32], last: &[(u32, u8)]) -> Result<Task, NoMemory> {
     task_of(alloc, None, set, last)
 }
 
-// The same, of the test of a station.
+// Returns query 5 about these stations, with these last channels and this tested station.
 pub(crate) fn task_of(
     alloc: Global,
     station: Option<u32>,
@@ -31,7 +31,7 @@ pub(crate) fn task_of(
     })
 }
 
-// The book of two constraint files.
+// Returns the book of two constraint files.
 pub(crate) fn book(alloc: Global, domains: &str, rows: &str) -> Option<Book> {
     let domains = read_domains(alloc, domains.as_bytes()).ok()?;
     let pairs = read_pairs(alloc, rows.as_bytes(), &domains).ok()?;

@@ -1,4 +1,4 @@
-//! The texts that an auction writes and reads: results, proof logs, transcripts, tests left open.
+//! Tests of the texts that an auction writes and reads: results, proof logs, transcripts and undecided tests.
 
 mod left_open;
 mod logs;

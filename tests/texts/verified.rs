@@ -1,4 +1,4 @@
-//! Tests of `transcript_check`, and of auctions that go on from what is kept of a transcript.
+//! Tests of `transcript_check`, and of auctions that resume from the prefix of a transcript.
 
 mod live_tests;
 mod resume_tests;

@@ -1,4 +1,4 @@
-//! What `make` stores, says and leaves.
+//! Files, output and status of `make`.
 
 use crate::scenes::change::Change;
 use crate::scenes::scene::{RUN, Scene, first_untrue, first_untrue_change, leaves, run};
@@ -18,13 +18,13 @@ const BARE: Scene<'static> = Scene {
     ..RUN
 };
 
-// The numbers may have a plus and zeros.
+// The numbers may have a plus sign and leading zeros.
 const SPELLED: Scene<'static> = Scene {
     command: "repack make +7 001 d.csv r.csv s.json",
     ..BARE
 };
 
-// The domains are given in the place of the rows, and the other way round.
+// The names of the domains and of the rows are swapped.
 const TURNED: Scene<'static> = Scene {
     command: "repack make 7 1 r.csv d.csv s.json",
     ..BARE
@@ -40,7 +40,7 @@ const FAR: Scene<'static> = Scene {
     ..BARE
 };
 
-// A number is no name.
+// A number that equals a file name is not given twice.
 const NUMBERS: Scene<'static> = Scene {
     command: "repack make 7 1 7 1 s.json",
     ..BARE
@@ -73,7 +73,7 @@ fn one_station_is_made(rt: HostRuntime) -> Result<(), Fail> {
     Ok(())
 }
 
-// The files of these names hold something before.
+// The files of these names already exist.
 const OVER_OLD: Scene<'static> = Scene {
     command: ONE,
     domains: "old domains",
@@ -94,7 +94,7 @@ const FAULTS: &[(Change<'static>, &str)] = &[
         Change::Call(3),
         "status 4; said: cannot write s.json\n; d.csv: DOMAIN,1,14,15,16,17\n; r.csv: ; no record; faults: 1",
     ),
-    // The made files are not loaded again.
+    // The generated files are not loaded again.
     (
         Change::Call(4),
         "status 0; d.csv: DOMAIN,1,14,15,16,17\n; r.csv: ; a record; faults: 0",
@@ -104,12 +104,12 @@ const FAULTS: &[(Change<'static>, &str)] = &[
         Change::Write(1),
         "status 4; nothing said; d.csv: DOMAIN,1,14,15,16,17\n; r.csv: ; inputs changed; a record; ending: done; on air: 1",
     ),
-    // Where the line of a fault can't be written either, the status stays.
+    // The status is the same if the line that reports the error cannot be written.
     (
         Change::Mute(1),
         "status 4; nothing said; r.csv: old rows; no record; faults: 1",
     ),
-    // The summary is one write, so a second one is never made.
+    // The summary is a single write, and write 2 never happens.
     (
         Change::Write(2),
         "status 0; said: stations 1\non-air 1\nfrozen 0\nundecided 0\ntotal 0\n",
@@ -125,7 +125,7 @@ fn the_folder_or_the_sink_fails(rt: HostRuntime) -> Result<(), Fail> {
     Ok(())
 }
 
-// The first of these numbers that are taken, in an empty folder.
+// Returns the first of these pairs of numbers that `make` accepts, in an empty folder.
 fn first_taken<'a, W: Threads + Wait + Sync>(
     rt: &W,
     alloc: Global,
@@ -166,7 +166,7 @@ fn numbers_out_of_their_bounds_are_refused(rt: HostRuntime) -> Result<(), Fail> 
     Ok(())
 }
 
-// The status and what is said of a made auction of many stations.
+// Returns the status and the output of a generated auction of many stations.
 fn many_told<W: Threads + Wait + Sync>(rt: &W, alloc: Global) -> Result<String, NoMemory> {
     let scene = Scene {
         command: MANY,

@@ -1,4 +1,4 @@
-//! Tests of the commands `seek` and `make`, by runs of the whole program over `scenes`.
+//! Tests of the commands `seek` and `make`, which run the whole program with `scenes`.
 
 mod made;
 mod search;

@@ -1,20 +1,21 @@
-//! Tests of the search, where one station may use one channel alone.
+//! The binary search finds the least top channel. The test has one station with one channel.
 
 use std::alloc::{AllocError as NoMemory, Global};
 use std::test::Fail;
 use target_seek::search::TopSearch;
-use target_seek::seek::{Sought, seek_top};
+use target_seek::seek::seek_top;
+use target_seek::sought::Sought;
 use target_seek::top_test::{TopAnswer, TopTest};
 
-// A top that was asked about, and what was answered.
+// A top channel of a test, and its answer.
 #[derive(Clone, Copy)]
 struct Asked {
     top: u8,
     answer: TopAnswer,
 }
 
-// A station that may use this channel alone, the tops whose tests are left open, after how many questions there is no more
-// memory, and what was asked.
+// A station with one channel, the top channels whose tests are undecided, the number of tests until memory runs out, and the tests
+// so far.
 #[derive(Drop)]
 struct OneStation {
     channel: u8,
@@ -38,7 +39,7 @@ impl TopTest for OneStation {
     }
 }
 
-// Whether a station fits up to this top that may use this channel alone, but where that is left open.
+// Returns whether a station with this one channel fits up to `top`, or that the test is undecided.
 fn answer_at(channel: u8, open: &[u8], top: u8) -> TopAnswer {
     if open.contains(&top) {
         return TopAnswer::Open;
@@ -49,10 +50,10 @@ fn answer_at(channel: u8, open: &[u8], top: u8) -> TopAnswer {
     TopAnswer::Fits
 }
 
-// More questions than any search asks.
+// More tests than any search makes.
 const PLENTY: usize = 99;
 
-// A test of a station on this channel, with these tops left open, and memory for so many questions.
+// Returns a station with this channel and these undecided top channels, and with memory for `most` tests.
 fn station_on(alloc: Global, channel: u8, open: &'static [u8], most: usize) -> OneStation {
     OneStation {
         channel,
@@ -62,7 +63,7 @@ fn station_on(alloc: Global, channel: u8, open: &'static [u8], most: usize) -> O
     }
 }
 
-// What is found, and the tops that were asked about.
+// Returns the result of a search and the tested top channels.
 fn found(
     alloc: Global,
     test: OneStation,
@@ -75,7 +76,7 @@ fn found(
     Ok((sought, tops))
 }
 
-// The station's channel and the tops left open, the first and the last top, what is found, and the tops asked about.
+// The channel, the undecided top channels, the first and the last top channel, the result, and the tested top channels.
 type Search = (u8, &'static [u8], u8, u8, Sought, &'static [u8]);
 
 const SEARCHES: &[Search] = &[
@@ -95,12 +96,12 @@ const SEARCHES: &[Search] = &[
         Sought::Least { top: 51 },
         &[51, 32, 42, 47, 49, 50],
     ),
-    // It fits below the first one too.
+    // The station fits also below the first top channel.
     (14, &[], 33, 36, Sought::Least { top: 33 }, &[36, 34, 33]),
-    // It fits above the last one alone.
+    // The station fits only above the last top channel.
     (37, &[], 14, 36, Sought::NoneFits, &[36]),
     (14, &[36], 14, 36, Sought::LastOpen, &[36]),
-    // The one below it is open.
+    // The test just below the least fit is undecided.
     (
         20,
         &[22],
@@ -109,7 +110,7 @@ const SEARCHES: &[Search] = &[
         Sought::AboveOpen { top: 23 },
         &[30, 22, 26, 24, 23],
     ),
-    // An open one further down, and one that isn't asked about.
+    // An undecided test further below the least fit, and one that the search does not make.
     (
         25,
         &[22],
@@ -126,7 +127,7 @@ const SEARCHES: &[Search] = &[
         Sought::Least { top: 20 },
         &[30, 22, 18, 20, 19],
     ),
-    // One top alone.
+    // Only one top channel.
     (14, &[], 36, 36, Sought::Least { top: 36 }, &[36]),
     (37, &[], 36, 36, Sought::NoneFits, &[36]),
     (14, &[36], 36, 36, Sought::LastOpen, &[36]),

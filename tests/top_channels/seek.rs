@@ -1,4 +1,4 @@
-//! What `seek` leaves.
+//! Results of `seek`.
 
 use crate::scenes::change::Change;
 use crate::scenes::scene::{RUN, Scene, first_untrue, first_untrue_words};
@@ -7,7 +7,7 @@ use std::test::Fail;
 
 const TO_16: &str = "\"top\":16,\"opening\":100,\"decrements\":[40,40]";
 
-// Two stations without values on three channels, of which no two next to each other may be used.
+// Two stations without values on three channels. They may not share a channel, nor use channels 14 and 15 together.
 const APART: Scene<'static> = Scene {
     command: SEEK,
     domains: "DOMAIN,1,14,15,16\nDOMAIN,2,14,15,16\n",
@@ -17,7 +17,7 @@ const APART: Scene<'static> = Scene {
     ..RUN
 };
 
-// Three stations without values on as many channels, of which no two may share one.
+// Three stations without values on three channels, no two of which may share one.
 const CROWD: Scene<'static> = Scene {
     command: SEEK,
     domains: "DOMAIN,1,14,15,16\nDOMAIN,2,14,15,16\nDOMAIN,3,14,15,16\n",
@@ -28,7 +28,7 @@ const CROWD: Scene<'static> = Scene {
 };
 
 const LEAST_TOPS: &[(Scene<'static>, &str)] = &[
-    // It fits at the scenario's own top channel alone.
+    // The stations fit only up to the scenario's own top channel.
     (
         APART,
         "status 0; said: top 16\n; channels of the map; ending: done; start: fits; tests: none; on air: 1, 2; below: start refuted; no out.csv; inputs kept",
@@ -40,12 +40,12 @@ const LEAST_TOPS: &[(Scene<'static>, &str)] = &[
         },
         "status 0; said: top 15\n; channels of the map; on air: 1, 2; below: start refuted",
     ),
-    // Nobody interferes.
+    // No two stations interfere.
     (
         Scene { rows: "", ..APART },
         "status 0; said: top 14\n; chan.csv: facility,channel\n1,14\n2,14\n; no record below",
     ),
-    // It fits nowhere.
+    // The stations fit up to no top channel.
     (
         Scene {
             clock: "\"top\":15,\"opening\":100,\"decrements\":[40,40]",
@@ -53,7 +53,7 @@ const LEAST_TOPS: &[(Scene<'static>, &str)] = &[
         },
         "status 6; said: the start set does not fit\n; nothing stored; ending: start refuted; no record below; inputs kept",
     ),
-    // Nobody starts on air: there is no station, or each takes part.
+    // No station starts on air: there is none, or all take part.
     (
         Scene {
             stations: "",
@@ -68,7 +68,7 @@ const LEAST_TOPS: &[(Scene<'static>, &str)] = &[
         },
         "status 0; said: top 14\n; chan.csv: facility,channel\n; start: empty; no record below",
     ),
-    // Of three stations one takes part, at a value that is the opening offer.
+    // One of three stations takes part, with a value equal to the opening offer.
     (
         Scene {
             stations: "{\"id\":1,\"volume\":1},{\"id\":2,\"volume\":1,\"value\":101},{\"id\":3,\"volume\":1,\"value\":100}",
@@ -80,7 +80,7 @@ const LEAST_TOPS: &[(Scene<'static>, &str)] = &[
         CROWD,
         "status 0; said: top 16\n; on air: 1, 2, 3; below: start refuted",
     ),
-    // The test of one channel less is left open.
+    // The test with one channel fewer is undecided.
     (
         Scene {
             workers: ONE_LINE,
@@ -88,7 +88,7 @@ const LEAST_TOPS: &[(Scene<'static>, &str)] = &[
         },
         "status 1; said: top 16\nundecided 15\n; channels of the map; on air: 1, 2, 3; below: start open after 1 line",
     ),
-    // So is that of the scenario's own top channel.
+    // The test of the scenario's own top channel is undecided.
     (
         Scene {
             command: SEEK,
@@ -121,7 +121,7 @@ const STOPS: &[(Scene<'static>, &str)] = &[
         },
         "status 5; said: d.csv: no domain row for station 2\n; nothing stored; no record",
     ),
-    // The store fails, and then what is printed.
+    // The store fails, and then the print.
     (
         Scene {
             change: Change::Call(8),

@@ -1,4 +1,4 @@
-//! Bad files, and the line that is said of each.
+//! Invalid files, and the line that reports each.
 
 use crate::scenes::change::Change;
 use crate::scenes::scene::{RUN, Scene, are_refused, leaves};
@@ -9,27 +9,27 @@ use std::sync::Wait;
 use std::test::Fail;
 use std::thread::Threads;
 
-// What is given, and to which commands.
+// The input of a row, and the commands that read it.
 #[derive(Clone, Copy)]
 enum Given<'a> {
-    // The three stations with this change, to `run` and to `check`.
+    // The three stations with this change, for `run` and `check`.
     Inputs(Change<'a>),
-    // Their transcript with the second in place of the first, to `verify`.
+    // The transcript of the three stations with the second string in place of the first, for `verify`.
     Steps(&'a str, &'a str),
-    // This transcript of one station without a channel, to `verify`.
+    // This transcript of one station without a channel, for `verify`.
     OneStep(&'a str),
-    // These domains of one station that starts on air, to `run`.
+    // These domains of one station that starts on air, for `run`.
     OnAir(&'a str),
 }
 
-// The run on one station that starts on air.
+// `run` on one station that starts on air.
 const STARTED: Scene<'static> = Scene {
     rows: "",
     stations: "{\"id\":1,\"volume\":1}",
     ..RUN
 };
 
-// Whether `verify` refuses the text with this line.
+// Checks whether `verify` rejects the text with this line.
 fn is_text_refused<W: Threads + Wait + Sync>(
     rt: &W,
     alloc: Global,
@@ -44,7 +44,7 @@ fn is_text_refused<W: Threads + Wait + Sync>(
     leaves_changed(rt, alloc, scene, part, other, &facts)
 }
 
-// Whether `run` stores these channels of one station with these domains.
+// Checks whether `run` stores these channels for one station with these domains.
 fn is_on_air<W: Threads + Wait + Sync>(
     rt: &W,
     alloc: Global,
@@ -56,7 +56,7 @@ fn is_on_air<W: Threads + Wait + Sync>(
     leaves(rt, alloc, &scene, &facts)
 }
 
-// Whether what is given is answered so: by the line of a refusal, or by the channels that are stored.
+// Checks the answer of a row: the line that reports the invalid file, or the stored channels.
 fn is_answered<W: Threads + Wait + Sync>(
     rt: &W,
     alloc: Global,
@@ -71,7 +71,7 @@ fn is_answered<W: Threads + Wait + Sync>(
     }
 }
 
-// The answer of the first row that isn't answered so.
+// Returns the answer of the first row that gets another answer.
 fn first_unanswered<'a, W: Threads + Wait + Sync>(
     rt: &W,
     alloc: Global,
@@ -106,12 +106,12 @@ const BAD_FILES: &[(Given<'static>, &str)] = &[
         Given::Inputs(Change::Holds("d.csv", "DOMAIN,1,14\nDOMAIN,01,15\n")),
         "d.csv: line 2: second domain row\n",
     ),
-    // A field in quotes and a line that ends in 0D 0A are good.
+    // A field in quotes and a line that ends in 0D 0A are valid.
     (
         Given::OnAir("DOMAIN,\"1\",14\r\n"),
         "facility,channel\n1,14\n",
     ),
-    // The number of fields comes before the key.
+    // The number of fields is checked before the key.
     (
         Given::Inputs(Change::Holds("r.csv", "FOO,x\n")),
         "r.csv: line 1: short row\n",

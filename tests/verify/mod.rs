@@ -1,4 +1,4 @@
-//! Tests of the commands `verify`, `export` and `import`, and of bad files, by runs of the whole program over `scenes`.
+//! Tests of the commands `verify`, `export` and `import`, and of invalid files, which run the whole program with `scenes`.
 
 mod bad_files;
 mod proofs;

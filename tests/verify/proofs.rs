@@ -1,4 +1,4 @@
-//! What `export` stores of a step, and what `import` makes of a step and a log.
+//! `export` stores the formula of a step, and `import` replaces an undecided step by a proof.
 
 use crate::scenes::change::Change;
 use crate::scenes::scene::{RUN, Scene, first_untrue, leaves};
@@ -9,19 +9,19 @@ use std::sync::Wait;
 use std::test::Fail;
 use std::thread::Threads;
 
-// The transcript of the three stations whose one worker may derive a line: the last test is left open.
+// The transcript of the three stations with a worker whose budget is one line: the last test is undecided.
 const LEFT_OPEN: &str =
     "transcript 1\nstart empty\nfit 1 1 1\nat 1 14\nfit 1 2 1\nat 2 14\nfit 1 3 1\nat 3 15\nfit 2 1 1\nat 1 15\nundecided 2 3 1\nlines 0 1\n13 -1 0 7 2 8 3 12 0\nend 5\n";
 
-// A refutation of the three stations' set.
+// A refutation of the set of three stations.
 const TWO_LINES: &str = "13 -1 0 7 2 8 3 12 0\n14 0 13 1 9 2 10 3 11 0\n";
 
-// The commands on the last step.
+// The commands for the last step.
 const IMPORT_LAST: &str = "repack import d.csv r.csv s.json tr.txt 5 p.lrat out.csv new.txt";
 
 const EXPORT_LAST: &str = "repack export d.csv r.csv s.json tr.txt 5 f.cnf";
 
-// The import of a log into the last step.
+// Imports a log into the last step.
 const IMPORT: Scene<'static> = Scene {
     command: IMPORT_LAST,
     workers: ONE_LINE,
@@ -30,14 +30,14 @@ const IMPORT: Scene<'static> = Scene {
     ..RUN
 };
 
-// The export of the last step of the same transcript.
+// Exports the last step of the same transcript.
 const EXPORT: Scene<'static> = Scene {
     command: EXPORT_LAST,
     log: None,
     ..IMPORT
 };
 
-// The export of other steps.
+// Export other steps.
 const EXPORT_FIRST: &str = "repack export d.csv r.csv s.json tr.txt 1 f.cnf";
 
 const EXPORT_THIRD: &str = "repack export d.csv r.csv s.json tr.txt 3 f.cnf";
@@ -45,7 +45,7 @@ const EXPORT_THIRD: &str = "repack export d.csv r.csv s.json tr.txt 3 f.cnf";
 const EXPORT_SIXTH: &str = "repack export d.csv r.csv s.json tr.txt 6 f.cnf";
 
 const FORMULAS: &[(Scene<'static>, &str)] = &[
-    // Of a step that is left open, and of one that a worker refuted.
+    // An undecided step, and a step that a worker refuted.
     (
         EXPORT,
         "status 0; nothing said; f.cnf: p cnf 6 12\n1 2 0\n3 4 0\n5 6 0\n-1 -2 0\n-3 -4 0\n-5 -6 0\n-1 -3 0\n-1 -5 0\n-2 -4 0\n-2 -6 0\n-3 -5 0\n-4 -6 0\n; no record; inputs kept; no out.csv; no new.txt",
@@ -57,7 +57,7 @@ const FORMULAS: &[(Scene<'static>, &str)] = &[
         },
         "status 0; nothing said; f.cnf: p cnf 6 12\n1 2 0\n3 4 0\n5 6 0\n-1 -2 0\n-3 -4 0\n-5 -6 0\n-1 -3 0\n-1 -5 0\n-2 -4 0\n-2 -6 0\n-3 -5 0\n-4 -6 0\n; no record; inputs kept",
     ),
-    // Of one that fits, of one without a channel, and of one like the step one round before.
+    // A step that fits, a step without a channel, and a step whose set is the one of a round before.
     (
         Scene {
             command: EXPORT_FIRST,
@@ -79,7 +79,7 @@ const FORMULAS: &[(Scene<'static>, &str)] = &[
         },
         "status 0; nothing said; f.cnf: p cnf 4 6\n1 2 0\n3 4 0\n-1 -2 0\n-3 -4 0\n-1 -3 0\n-2 -4 0\n; no record; inputs kept",
     ),
-    // Steps count from 1.
+    // Steps are counted from 1.
     (
         Scene {
             command: EXPORT_SIXTH,
@@ -109,14 +109,14 @@ fn formulas_are_exported(rt: HostRuntime) -> Result<(), Fail> {
     Ok(())
 }
 
-// What is left where the step is settled.
+// The facts when the step is decided.
 const SETTLED: &str =
     "status 0; said: stations 3\non-air 2\nfrozen 1\nundecided 0\ntotal 60\n; out.csv: facility,outcome,round,price\n1,exit,2,0\n2,exit,1,0\n3,frozen,2,60\n; new.txt: transcript 1\nstart empty\nfit 1 1 1\nat 1 14\nfit 1 2 1\nat 2 14\nfit 1 3 1\nat 3 15\nfit 2 1 1\nat 1 15\noutside 2 3 2\n13 -1 0 7 2 8 3 12 0\n14 0 13 1 9 2 10 3 11 0\nend 5\n; tests: 1.1 fits, 1.2 fits, 1.3 fits, 2.1 fits, 2.3 refuted from outside; map: 1 on 15, 2 on 14; inputs kept";
 
-// Logs, and what is left of an import of each.
+// Logs, and the facts of an import of each.
 const LOGS: &[(&str, &str)] = &[
     (TWO_LINES, SETTLED),
-    // Lines behind the first empty one; numbers that skip; deletions, comments and blank lines.
+    // Lines after the first empty clause; numbers with gaps; deletions, comments and blank lines.
     (
         "13 -1 0 7 2 8 3 12 0\n14 0 13 1 9 2 10 3 11 0\n15 0 14 0\n16 1 0 15 0\n",
         SETTLED,
@@ -126,7 +126,7 @@ const LOGS: &[(&str, &str)] = &[
         "c a log\n\n13 d 4 5 0\n13 -1 0 7 2 8 3 12 0\r\n 14\t0 13 1 9 2 10 3 11 0 \n14 d 7 0\n",
         SETTLED,
     ),
-    // Texts that are no log.
+    // Texts that are not logs.
     (
         "13 -1 0 -7 2 0\n",
         "status 10; said: p.lrat: line 1: RAT step\n; no out.csv; no new.txt; no record; inputs kept",
@@ -143,7 +143,7 @@ const LOGS: &[(&str, &str)] = &[
         "13 -1 0 7 2 8 3 12 0\n14 0 13 1 9 2 10 3 11 0\n15 0 99 0\n",
         "status 10; said: p.lrat: line 3: bad line\n; no out.csv; no new.txt; no record; inputs kept",
     ),
-    // Logs that refute nothing: no line, none that is empty, a last line that doesn't follow, one before it.
+    // Logs that are no refutation: no line, no empty clause, an invalid last line, an invalid line before the last.
     (
         "",
         "status 10; said: p.lrat: not a refutation\n; no out.csv; no new.txt; no record; inputs kept",
@@ -162,7 +162,7 @@ const LOGS: &[(&str, &str)] = &[
     ),
 ];
 
-// The log of the first row whose facts aren't so of its import.
+// Returns the log of the first row that has a fact which is not true of its import.
 fn first_untrue_log<'a, W: Threads + Wait + Sync>(
     rt: &W,
     alloc: Global,
@@ -208,7 +208,7 @@ const FAILS: &[(Scene<'static>, &str)] = &[
         },
         "status 2; something said; no out.csv; no new.txt; no record; inputs kept",
     ),
-    // A worker's refutation stands: the step is looked at before the log is.
+    // A step that a worker refuted is rejected before the log is read.
     (
         Scene {
             command: IMPORT_LAST,
@@ -218,7 +218,7 @@ const FAILS: &[(Scene<'static>, &str)] = &[
         },
         "status 10; said: step 5: not undecided\n; no out.csv; no new.txt; no record; inputs kept",
     ),
-    // What `verify` refuses comes first.
+    // A transcript that `verify` rejects is reported first.
     (
         Scene {
             command: "repack import d.csv r.csv s.json tr.txt 6 p.lrat out.csv new.txt",
@@ -270,7 +270,7 @@ fn steps_and_files_that_fail(rt: HostRuntime) -> Result<(), Fail> {
     Ok(())
 }
 
-// A fourth station interferes with the first two, as the third does: two tests are left open.
+// A fourth station interferes with the first two, as the third does: two tests are undecided.
 const TWO_OPEN: Scene<'static> = Scene {
     domains: "DOMAIN,1,14,15\nDOMAIN,2,14,15\nDOMAIN,3,14,15\nDOMAIN,4,14,15\n",
     rows: "CO,14,14,1,2,3,4\nCO,14,14,2,3,4\nCO,15,15,1,2,3,4\nCO,15,15,2,3,4\n",

@@ -1,4 +1,4 @@
-//! What `verify` tells of a transcript a step of which is at fault, and of tests that were left open.
+//! `verify` on transcripts with an invalid step, and on transcripts with undecided tests.
 
 use crate::scenes::change::replaced;
 use crate::scenes::scene::{Scene, leaves};
@@ -9,10 +9,10 @@ use std::sync::Wait;
 use std::test::Fail;
 use std::thread::Threads;
 
-// Parts of the transcript in the place of others, and what is said. Each is the text of a transcript, and a step of it has
-// an answer at fault.
+// A part of the transcript, its replacement, and the expected facts. Each result is a well-formed transcript with a step whose
+// certificate is invalid.
 const FAULTS: &[(&str, &str, &str)] = &[
-    // A fit without a channel of its station, or with one of another station, or of no domain, or that violates a pair.
+    // A fit without the station's channel, with another station's channel, with a channel outside the domain, or with a violated pair.
     (
         "fit 1 1 1\nat 1 14\n",
         "fit 1 1 0\n",
@@ -33,7 +33,7 @@ const FAULTS: &[(&str, &str, &str)] = &[
         "at 1 14",
         "status 9; said: tr.txt: step 4: not valid\n; no record",
     ),
-    // A test that needs a query is shown by none.
+    // Step kinds without a query, for a test that needs one.
     (
         "fit 2 1 1\nat 1 15\n",
         "same 2 1\n",
@@ -44,7 +44,7 @@ const FAULTS: &[(&str, &str, &str)] = &[
         "none 2 1\n",
         "status 9; said: tr.txt: step 4: not valid\n; no record",
     ),
-    // A proof that has no line, or is over a station that the test doesn't ask about, or of which a line doesn't follow.
+    // A proof without lines, one over a station outside the query's set, and one with a line that does not follow.
     (
         "log 2 3 0 2\non 1 2 3\n13 -1 0 7 2 8 3 12 0\n14 0 13 1 9 2 10 3 11 0\n",
         "log 2 3 0 0\non 1 2 3\n",
@@ -60,19 +60,19 @@ const FAULTS: &[(&str, &str, &str)] = &[
         "8 3 11 0",
         "status 9; said: tr.txt: step 5: not valid\n; no record",
     ),
-    // Its last line alone is empty.
+    // The proof lacks the empty clause.
     (
         "log 2 3 0 2\non 1 2 3\n13 -1 0 7 2 8 3 12 0\n14 0 13 1 9 2 10 3 11 0\n",
         "log 2 3 0 1\non 1 2 3\n13 -1 0 7 2 8 3 12 0\n",
         "status 9; said: tr.txt: step 5: not valid\n; no record",
     ),
-    // A pair that isn't dead.
+    // The pair is not dead.
     (
         "log 2 3 0 2\non 1 2 3\n13 -1 0 7 2 8 3 12 0\n14 0 13 1 9 2 10 3 11 0\n",
         "dead 2 3 0 1 15 3 15\n",
         "status 9; said: tr.txt: step 5: not valid\n; no record",
     ),
-    // A proof from outside whose first line has another number.
+    // The first line of an outside proof has the wrong number.
     (
         "log 2 3 0 2\non 1 2 3\n13 -1 0 7 2 8 3 12 0\n14 0 13 1 9 2 10 3 11 0\n",
         "outside 2 3 2\n14 -1 0 7 2 8 3 12 0\n15 0 14 1 9 2 10 3 11 0\n",
@@ -86,7 +86,7 @@ fn the_step_at_fault_is_named(rt: HostRuntime) -> Result<(), Fail> {
     Ok(())
 }
 
-// Whether the check of this transcript, by these workers, leaves what these facts say.
+// Checks whether `verify` on this transcript, with these workers, has these facts.
 fn leaves_by<'a, W: Threads + Wait + Sync>(
     rt: &W,
     alloc: Global,
@@ -103,7 +103,7 @@ fn leaves_by<'a, W: Threads + Wait + Sync>(
     leaves(rt, alloc, &changed, facts)
 }
 
-// Whether the check of the transcript with another last step, by these workers, leaves what these facts say.
+// Checks whether `verify` on the transcript with another last step, with these workers, has these facts.
 fn leaves_last<W: Threads + Wait + Sync>(
     rt: &W,
     alloc: Global,
@@ -115,7 +115,7 @@ fn leaves_last<W: Threads + Wait + Sync>(
     leaves_by(rt, alloc, &CHECKED, workers, &text, facts)
 }
 
-// The last step of the first row whose facts aren't so.
+// Returns the last step of the first row that has a fact which is not true.
 fn first_untrue_last<'a, W: Threads + Wait + Sync>(
     rt: &W,
     alloc: Global,
@@ -145,7 +145,7 @@ const LAST: &[(&str, &str, &str)] = &[
         "undecided 2 3 2\nlines 0 1\n13 -1 0 7 2 8 3 12 0\nlines 1 1\n13 -1 0 7 2 8 3 12 0\n",
         "status 1; said: facility,outcome,round,price\n1,exit,2,0\n2,exit,1,0\n3,undecided,2,60\n; tests: 1.1 fits, 1.2 fits, 1.3 fits, 2.1 fits, 2.3 open after 1 line + 1 line",
     ),
-    // A receipt of each worker, in their order.
+    // An undecided step needs a receipt from each worker, in order of worker.
     (
         TWO,
         "undecided 2 3 2\nlines 0 1\n13 -1 0 7 2 8 3 12 0\nlines 0 1\n13 -1 0 7 2 8 3 12 0\n",
@@ -156,7 +156,7 @@ const LAST: &[(&str, &str, &str)] = &[
         "undecided 2 3 1\nlines 0 1\n13 -1 0 7 2 8 3 12 0\n",
         "status 9; said: tr.txt: line 11: bad line\n; no record",
     ),
-    // Its lines are numbered on from the clauses, are as many as the budget, follow, and are new.
+    // A receipt's lines are numbered after the clauses, are as many as the budget, follow, and are new.
     (
         ONE_LINE,
         "undecided 2 3 1\nlines 0 1\n14 -1 0 7 2 8 3 12 0\n",
@@ -177,13 +177,13 @@ const LAST: &[(&str, &str, &str)] = &[
         "undecided 2 3 1\nlines 0 1\n13 1 2 0 1 0\n",
         "status 9; said: tr.txt: step 5: not valid\n; no record",
     ),
-    // More lines than the budget.
+    // A proof has more lines than the budget.
     (
         ONE_LINE,
         LAST_STEP,
         "status 9; said: tr.txt: step 5: not valid\n; no record",
     ),
-    // A walk leaves no lines, and moves something that is in the way.
+    // A walk's receipt has moves, not lines. Each move takes a station of a violated pair to another channel.
     (
         WALK_TOO,
         "undecided 2 3 2\nmoves 0 1\nmove 3 15\nlines 1 1\n13 -1 0 7 2 8 3 12 0\n",

@@ -1,4 +1,4 @@
-//! What `verify` leaves of a transcript that is sound, or whose text is refused.
+//! `verify` on transcripts that are valid, or whose text is rejected.
 
 use crate::scenes::change::{Change, replaced};
 use crate::scenes::scene::{RUN, Scene, first_untrue, first_untrue_change, leaves, verifies};
@@ -8,14 +8,14 @@ use std::sync::Wait;
 use std::test::Fail;
 use std::thread::Threads;
 
-// The check of the three stations' transcript.
+// `verify` on the transcript of the three stations.
 pub const CHECKED: Scene<'static> = Scene {
     command: VERIFY,
     transcript: Some(TRANSCRIPT),
     ..RUN
 };
 
-/// Whether the check of the scene, over the three stations' transcript with this part changed, leaves what these facts say.
+/// Checks whether `verify` on the scene, with this part of the three stations' transcript replaced, has these facts.
 pub fn leaves_changed<W: Threads + Wait + Sync>(
     rt: &W,
     alloc: Global,
@@ -32,7 +32,7 @@ pub fn leaves_changed<W: Threads + Wait + Sync>(
     leaves(rt, alloc, &changed, facts)
 }
 
-/// The other part of the first row whose facts aren't so of the check of the transcript with its part changed.
+/// Returns the replacement of the first row that has a fact which is not true of the changed transcript.
 pub fn first_untrue_text<'a, W: Threads + Wait + Sync>(
     rt: &W,
     alloc: Global,
@@ -47,14 +47,14 @@ pub fn first_untrue_text<'a, W: Threads + Wait + Sync>(
     Ok(None)
 }
 
-// Parts of the transcript in the place of others, and what is left.
+// A part of the transcript, its replacement, and the expected facts.
 const TEXTS: &[(&str, &str, &str)] = &[
     (
         "",
         "",
         "status 0; said: facility,outcome,round,price\n1,exit,2,0\n2,exit,1,0\n3,frozen,2,60\n; ending: done; tests: 1.1 fits, 1.2 fits, 1.3 fits, 2.1 fits, 2.3 refuted by 0; map: 1 on 15, 2 on 14; total: 60; no out.csv; no chan.csv; inputs kept",
     ),
-    // Of equal volumes both orders are one.
+    // With equal volumes both orders of the tests are the same.
     (
         "transcript 1",
         "transcript 2",
@@ -80,7 +80,7 @@ const TEXTS: &[(&str, &str, &str)] = &[
         "end 4",
         "status 9; said: tr.txt: line 15: bad line\n; no record; inputs kept",
     ),
-    // The tests of the rule, in its order, and no others.
+    // The transcript has exactly the tests of the rule, in its order.
     (
         "fit 1 1 1\nat 1 14\n",
         "fit 1 2 1\nat 2 14\n",
@@ -96,7 +96,7 @@ const TEXTS: &[(&str, &str, &str)] = &[
         "log 2 3 0 2\non 1 2 3\n13 -1 0 7 2 8 3 12 0\n14 0 13 1 9 2 10 3 11 0\nend 6",
         "status 9; said: tr.txt: step 6: order\n; no record; inputs kept",
     ),
-    // A proof from outside is one of no worker.
+    // An outside proof belongs to no worker.
     (
         "log 2 3 0 2\non 1 2 3\n",
         "outside 2 3 2\n",
@@ -110,15 +110,15 @@ fn texts_are_verified(rt: HostRuntime) -> Result<(), Fail> {
     Ok(())
 }
 
-// The transcript of the three stations by volume, where station 3 has the greatest.
+// The transcript of the three stations in order of volume, where station 3 has the greatest.
 const BY_VOLUME: &str =
     "transcript 2\nstart empty\nfit 1 3 1\nat 3 14\nfit 1 1 1\nat 1 14\nfit 1 2 1\nat 2 14\nfit 2 3 1\nat 3 15\nfit 2 1 1\nat 1 15\nlog 3 3 0 2\non 1 2 3\n13 -1 0 7 2 8 3 12 0\n14 0 13 1 9 2 10 3 11 0\nend 6\n";
 
-// Station 2 starts on air; station 1's second test is like its first.
+// Station 2 starts on air, and the second test of station 1 has the same set as its first.
 const AIR_TRANSCRIPT: &str =
     "transcript 1\nstart fit 1\nat 2 14\nfit 1 1 1\nat 1 15\nfit 1 3 1\nat 3 15\nsame 2 1\nlog 2 3 0 2\non 1 2 3\n13 -1 0 7 2 8 3 12 0\n14 0 13 1 9 2 10 3 11 0\nend 4\n";
 
-/// The check of a transcript on one station below whose only channel the top lies.
+/// `verify` on a transcript of one station whose only channel is above the top channel.
 pub const ONE: Scene<'static> = Scene {
     domains: "DOMAIN,1,40\n",
     rows: "",
@@ -142,14 +142,14 @@ const IN_TURN: Scene<'static> = Scene {
     ..BY_FACILITY
 };
 
-/// The check of that transcript.
+/// `verify` on the transcript in which station 2 starts on air.
 pub const FROM_AIR: Scene<'static> = Scene {
     transcript: Some(AIR_TRANSCRIPT),
     change: ON_AIR,
     ..CHECKED
 };
 
-// A transcript of another scenario.
+// The transcript belongs to another scenario.
 const UNLIKE: Scene<'static> = Scene {
     change: Change::Part("\"value\":10", "\"value\":61"),
     ..CHECKED
@@ -203,7 +203,7 @@ fn other_auctions_are_verified(rt: HostRuntime) -> Result<(), Fail> {
     Ok(())
 }
 
-// By volume station 3 comes first.
+// The transcript's version decides the order: in order of volume, station 3 must come first.
 #[test]
 fn the_order_is_the_transcripts(rt: HostRuntime) -> Result<(), Fail> {
     let scene = Scene {
@@ -224,7 +224,7 @@ fn the_order_is_the_transcripts(rt: HostRuntime) -> Result<(), Fail> {
     Ok(())
 }
 
-// Changes of the check of the three stations' transcript, and what is left.
+// Changes of `verify` on the three stations' transcript, and the expected facts.
 const CHANGES: &[(Change<'static>, &str)] = &[
     (
         Change::Missing("d.csv"),
@@ -242,8 +242,8 @@ const CHANGES: &[(Change<'static>, &str)] = &[
         Change::Missing("tr.txt"),
         "status 3; said: cannot read tr.txt\n; no record; nothing stored",
     ),
-    // Domains, rows and the transcript are begun and handed out in pieces, of which the last is empty; the scenario is one
-    // load.
+    // The program reads domains, rows and the transcript in pieces: the call that opens the file, a piece, and an empty piece. It loads
+    // the scenario in one call.
     (
         Change::Call(1),
         "status 3; said: cannot read d.csv\n; no out.csv; no chan.csv; no record; inputs kept; faults: 1",
@@ -284,12 +284,12 @@ const CHANGES: &[(Change<'static>, &str)] = &[
         Change::Call(10),
         "status 3; said: cannot read tr.txt\n; no out.csv; no chan.csv; no record; inputs kept; faults: 1",
     ),
-    // A fault of the text is told once it has been read to its end.
+    // An invalid transcript is reported only after the whole file is read.
     (
         Change::Stops("tr.txt", "transcript 3\n", 10),
         "status 3; said: cannot read tr.txt\n; no record; faults: 1",
     ),
-    // Nothing is read or stored behind the transcript.
+    // Nothing is read or stored after the transcript.
     (
         Change::Call(11),
         "status 0; said: facility,outcome,round,price\n1,exit,2,0\n2,exit,1,0\n3,frozen,2,60\n; faults: 0",
@@ -306,12 +306,12 @@ const CHANGES: &[(Change<'static>, &str)] = &[
         Change::Write(1),
         "status 4; nothing said; a record; ending: done; total: 60; inputs kept",
     ),
-    // Where the line of a fault can't be written either, the status stays.
+    // The status is the same if the line that reports the error cannot be written.
     (
         Change::Mute(1),
         "status 3; nothing said; no out.csv; no chan.csv; no record; inputs kept; faults: 1",
     ),
-    // The result is one write, so a second one is never made.
+    // The result is a single write, and write 2 never happens.
     (
         Change::Write(2),
         "status 0; said: facility,outcome,round,price\n1,exit,2,0\n2,exit,1,0\n3,frozen,2,60\n; a record",
@@ -327,7 +327,7 @@ fn a_file_or_the_sink_fails(rt: HostRuntime) -> Result<(), Fail> {
     Ok(())
 }
 
-// The workers of the first row whose own run is not verified as these facts say.
+// Returns the workers of the first row whose own run does not verify with these facts.
 fn first_unverified<'a, W: Threads + Wait + Sync>(
     rt: &W,
     alloc: Global,

@@ -1,16 +1,16 @@
-//! What the words of a command line are read as, and which are refused.
+//! Which command the words of a command line are, and which words are rejected.
 
 use crate::words::reading::read;
 use std::alloc::{AllocError as NoMemory, Global};
 use std::test::Fail;
 
-// Whether the words are refused by a text of whole lines with this start, which no command has.
+// Checks whether the words are rejected with a text of complete lines that begins with `start`.
 fn is_refused(alloc: Global, line: &str, start: &str) -> Result<bool, NoMemory> {
     let text = read(alloc, line)?;
     Ok(text.starts_with(start) && text.ends_with('\n'))
 }
 
-// The first line that isn't refused with the start beside it.
+// Returns the first line that is not rejected with its `start`.
 fn unrefused<'a>(alloc: Global, table: &[(&'a str, &str)]) -> Result<Option<&'a str>, NoMemory> {
     for &(line, start) in table {
         if !is_refused(alloc, line, start)? {
@@ -109,7 +109,7 @@ const WRONG_COUNTS: &[(&str, &str)] = &[
         "repack,seek,d,r,s",
         "error: the following required arguments were not provided:\n  <CHANNELS>\n\n",
     ),
-    // A name in the place of the step is no number.
+    // A name in the place of STEP is not a number.
     (
         "repack,export,d,r,s,1,c",
         "error: invalid value 'c' for '<STEP>': invalid digit found in string\n",
@@ -126,7 +126,7 @@ fn a_wrong_count_of_names_is_refused(rt: HostRuntime) -> Result<(), Fail> {
     Ok(())
 }
 
-// What is said of a step that is none.
+// The message for an invalid step.
 const RANGE: &str = "error: invalid value '0' for '<STEP>': 0 is not in 1..=4294967295\n";
 
 const LONG: &str =
@@ -162,19 +162,19 @@ fn a_step_is_a_number(rt: HostRuntime) -> Result<(), Fail> {
     Ok(())
 }
 
-// Whether a text fits a terminal of 80 columns, but for the usage, which is one line.
+// Checks whether a text fits a terminal of 80 columns. The usage is one line and may be longer.
 fn is_narrow(text: &str) -> bool {
     text.lines()
         .all(|line| line.len() <= 80 || line.starts_with("Usage: "))
 }
 
-// Whether the words bring a narrow help with this start and this usage.
+// Checks whether the words print a narrow help with this start and this usage.
 fn is_help(alloc: Global, line: &str, start: &str, usage: &str) -> Result<bool, NoMemory> {
     let text = read(alloc, line)?;
     Ok(text.starts_with(start) && text.contains(usage) && is_narrow(&text))
 }
 
-// The first line that doesn't bring a help with the start and the usage beside it.
+// Returns the first line that does not print a help with its start and usage.
 fn unhelped<'a>(
     alloc: Global,
     table: &[(&'a str, &str, &str)],
@@ -187,7 +187,7 @@ fn unhelped<'a>(
     Ok(None)
 }
 
-// How the help of the program, of `run` and of `check` begins, and its usage.
+// The beginnings of the help of the program, of `run` and of `check`, and their usages.
 const ABOUT: &str = "Runs the reverse clock auction ";
 
 const USAGE: &str = "\nUsage: repack <COMMAND>\n";
@@ -258,7 +258,7 @@ fn help_is_told(rt: HostRuntime) -> Result<(), Fail> {
     Ok(())
 }
 
-// The first line that isn't read as the text beside it.
+// Returns the first line that is not read as its text.
 fn misread<'a>(alloc: Global, table: &[(&'a str, &str)]) -> Result<Option<&'a str>, NoMemory> {
     for &(line, wanted) in table {
         let text = read(alloc, line)?;

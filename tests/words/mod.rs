@@ -1,4 +1,4 @@
-//! Tests of the command line's words: which command they are read as, which are refused, and which names are given twice.
+//! Tests of the command line's words: their command, invalid words, and names that are given twice.
 
 mod commands;
 mod names;

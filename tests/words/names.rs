@@ -1,10 +1,10 @@
-//! Which name of a command's files is given twice.
+//! Which of a command's file names is given twice.
 
 use command_words::make_words::MakeArgs;
 use command_words::proof_words::{ExportArgs, ImportArgs};
 use command_words::run_words::{InputArgs, RunArgs, VerifyArgs};
 
-// The arguments of `run` with these names, in order, and with this owners' file.
+// Returns the arguments of `run` with these names, in order, and this owners' file.
 fn run_args<'a>(owners: Option<&'a str>, names: [&'a str; 6]) -> RunArgs<'a> {
     let [domains, rows, scenario, result, channels, transcript] = names;
     RunArgs {
@@ -20,7 +20,7 @@ fn run_args<'a>(owners: Option<&'a str>, names: [&'a str; 6]) -> RunArgs<'a> {
     }
 }
 
-// The place of the first row of names whose repeated output isn't the one beside it, where this owners' file is named.
+// Returns the index of the first row whose repeated name is not the expected one, with this owners' file.
 fn other_repeat<'a>(
     owners: Option<&'a str>,
     table: &[([&'a str; 6], Option<&'a str>)],
@@ -37,7 +37,7 @@ const RUN_NAMES: &[([&str; 6], Option<&str>)] = &[
     (["d", "r", "s", "o", "c", "t"], None),
     // Input names may be equal.
     (["d", "d", "d", "o", "c", "t"], None),
-    // Other bytes are another name.
+    // Names with different bytes are different names.
     (["d", "r", "s", "./d", "D", "d "], None),
     (["d", "r", "s", "d", "c", "t"], Some("d")),
     (["d", "r", "s", "s", "c", "t"], Some("s")),
@@ -46,7 +46,7 @@ const RUN_NAMES: &[([&str; 6], Option<&str>)] = &[
     (["d", "r", "s", "o", "c", "c"], Some("c")),
     (["d", "r", "s", "o", "d", "t"], Some("d")),
     (["d", "r", "s", "o", "c", "r"], Some("r")),
-    // The first in the order of the arguments.
+    // The first repeated name in the order of the arguments is reported.
     (["d", "r", "s", "o", "r", "d"], Some("r")),
     (["d", "r", "s", "o", "d", "o"], Some("o")),
     (["d", "r", "s", "", "", ""], Some("")),
@@ -67,7 +67,7 @@ fn an_output_name_is_given_twice(rt: HostRuntime) {
     assert_eq!(rt; other_repeat(Some("w"), LIVE_NAMES), None);
 }
 
-// The arguments of `make` with these names to store, in order.
+// Returns the arguments of `make` with these output names, in order.
 fn make_args<'a>(names: [&'a str; 3]) -> MakeArgs<'a> {
     let [domains, rows, scenario] = names;
     MakeArgs {
@@ -82,7 +82,7 @@ fn make_args<'a>(names: [&'a str; 3]) -> MakeArgs<'a> {
     }
 }
 
-// The place of the first row of names whose repeated one, of those to store, isn't the one beside it.
+// Returns the index of the first row of output names whose repeated name is not the expected one.
 fn other_made_repeat(table: &[([&str; 3], Option<&str>)]) -> Option<usize> {
     for (i, &(names, wanted)) in table.iter().enumerate() {
         if make_args(names).given_twice() != wanted {
@@ -107,7 +107,7 @@ fn a_name_to_store_is_given_twice(rt: HostRuntime) {
     assert_eq!(rt; other_made_repeat(MADE_NAMES), None);
 }
 
-// The files of an auction, by their names in order.
+// Returns the arguments of `verify` with these names, in order.
 fn verify_args<'a>(names: [&'a str; 4]) -> VerifyArgs<'a> {
     let [domains, rows, scenario, transcript] = names;
     VerifyArgs {
@@ -121,7 +121,7 @@ fn verify_args<'a>(names: [&'a str; 4]) -> VerifyArgs<'a> {
     }
 }
 
-// The place of the first row of names, of an auction's files and a formula's, whose repeated one isn't the one beside it.
+// Returns the index of the first row whose repeated name is not the expected one. A row has an auction's files and a formula's.
 fn other_exported_repeat(table: &[([&str; 4], &str, Option<&str>)]) -> Option<usize> {
     for (i, &(names, formula, wanted)) in table.iter().enumerate() {
         let args = ExportArgs {
@@ -138,7 +138,7 @@ fn other_exported_repeat(table: &[([&str; 4], &str, Option<&str>)]) -> Option<us
 
 const EXPORTED_NAMES: &[([&str; 4], &str, Option<&str>)] = &[
     (["d", "r", "s", "t"], "c", None),
-    // The step is no name, and names of files to read may be equal.
+    // The step is not a name, and input names may be equal.
     (["d", "r", "s", "t"], "1", None),
     (["d", "d", "d", "d"], "./d", None),
     (["d", "r", "s", "t"], "d", Some("d")),
@@ -153,8 +153,8 @@ fn the_name_of_a_formula_is_given_twice(rt: HostRuntime) {
     assert_eq!(rt; other_exported_repeat(EXPORTED_NAMES), None);
 }
 
-// The place of the first row of names, of an auction's files and of a proof, a result and a transcript, whose repeated one
-// isn't the one beside it.
+// Returns the index of the first row whose repeated name is not the expected one. A row has an auction's files, a proof, a result
+// and a transcript.
 fn other_imported_repeat(table: &[([&str; 4], [&str; 3], Option<&str>)]) -> Option<usize> {
     for (i, &(names, [proof, result, transcript], wanted)) in table.iter().enumerate() {
         let args = ImportArgs {
@@ -175,7 +175,7 @@ const READ: [&str; 4] = ["d", "r", "s", "t"];
 
 const IMPORTED_NAMES: &[([&str; 4], [&str; 3], Option<&str>)] = &[
     (READ, ["l", "o", "n"], None),
-    // The step is no name, and names of files to READ may be equal.
+    // The step is not a name, and input names may be equal.
     (READ, ["l", "1", "n"], None),
     (["d", "d", "d", "d"], ["d", "o", "./d"], None),
     (READ, ["l", "d", "n"], Some("d")),
@@ -190,7 +190,7 @@ const IMPORTED_NAMES: &[([&str; 4], [&str; 3], Option<&str>)] = &[
     (READ, ["l", "o", "t"], Some("t")),
     (READ, ["l", "o", "l"], Some("l")),
     (READ, ["l", "o", "o"], Some("o")),
-    // The first in the order of the arguments.
+    // The first repeated name in the order of the arguments is reported.
     (READ, ["l", "s", "d"], Some("s")),
 ];
 

@@ -1,4 +1,4 @@
-//! What the words of a line are read as, as plain text.
+//! Which command the words of a line are, as plain text.
 
 use command_words::proof_words::{ExportArgs, ImportArgs};
 use command_words::resume_words::ResumeArgs;
@@ -6,7 +6,7 @@ use command_words::run_words::InputArgs;
 use command_words::words::{CommandArgs, WordsFault, read_words};
 use std::alloc::{AllocError as NoMemory, Global};
 
-// The words of a line with a comma between each two; an empty line has none.
+// Returns the words of a line, which are separated by commas; an empty line has none.
 fn words_of(alloc: Global, line: &str) -> Result<Vec<String>, NoMemory> {
     let mut words = Vec::new(alloc);
     if line.is_empty() {
@@ -18,7 +18,7 @@ fn words_of(alloc: Global, line: &str) -> Result<Vec<String>, NoMemory> {
     Ok(words)
 }
 
-// The names with a comma between each two.
+// Returns a command and its names, separated by commas.
 fn joined(alloc: Global, command: &str, names: &[&str]) -> Result<String, NoMemory> {
     let mut text = String::from_str(alloc, command)?;
     for name in names {
@@ -28,7 +28,7 @@ fn joined(alloc: Global, command: &str, names: &[&str]) -> Result<String, NoMemo
     Ok(text)
 }
 
-// The start of a command: its name, which is live where an owners' file is named, and the names of its input files.
+// Returns the start of a command's text: its name, with `live` if there is an owners' file, and the names of its input files.
 fn inputs_text(alloc: Global, command: &str, files: InputArgs<'_>) -> Result<String, NoMemory> {
     let InputArgs {
         domains,
@@ -48,7 +48,7 @@ fn inputs_text(alloc: Global, command: &str, files: InputArgs<'_>) -> Result<Str
     }
 }
 
-// The command: its name and those of its files in their places, with a comma between each two.
+// Returns a command's text: its name and its file names in order, separated by commas.
 fn command_text(alloc: Global, command: CommandArgs<'_>) -> Result<String, NoMemory> {
     match command {
         CommandArgs::Run(files) => {
@@ -81,7 +81,7 @@ fn command_text(alloc: Global, command: CommandArgs<'_>) -> Result<String, NoMem
     }
 }
 
-// The command to go on with an auction.
+// Returns the text of `resume`.
 fn resume_text(alloc: Global, files: ResumeArgs<'_>) -> Result<String, NoMemory> {
     let run_files = files.run_files;
     let inputs = inputs_text(alloc, "resume", run_files.inputs)?;
@@ -94,7 +94,7 @@ fn resume_text(alloc: Global, files: ResumeArgs<'_>) -> Result<String, NoMemory>
     joined(alloc, &inputs, &names)
 }
 
-// The command to store a formula; its step stands behind the names.
+// Returns the text of `export`, with the step after the names.
 fn export_text(alloc: Global, files: ExportArgs<'_>) -> Result<String, NoMemory> {
     let step = files.step;
     let last = format!(in alloc; "step {step}")?;
@@ -110,7 +110,7 @@ fn export_text(alloc: Global, files: ExportArgs<'_>) -> Result<String, NoMemory>
     joined(alloc, "command export", &names)
 }
 
-// The command to settle a step; its step stands behind the names.
+// Returns the text of `import`, with the step after the names.
 fn import_text(alloc: Global, files: ImportArgs<'_>) -> Result<String, NoMemory> {
     let step = files.step;
     let last = format!(in alloc; "step {step}")?;
@@ -128,7 +128,7 @@ fn import_text(alloc: Global, files: ImportArgs<'_>) -> Result<String, NoMemory>
     joined(alloc, "command import", &names)
 }
 
-/// The command that the words are, or the text that comes with their fault.
+/// Returns the text of the command that the words are, or the text of their error.
 pub fn read(alloc: Global, line: &str) -> Result<String, NoMemory> {
     let words = words_of(alloc, line)?;
     match read_words(alloc, &words) {

@@ -1,4 +1,4 @@
--- An auction may go to any thread, and any thread may share a board.
+-- An auction may move to any thread, and any thread may share a board.
 use Prim.Native.Nat.{ℕ}
 use mathlib.Core.List.{List, [], ◌∷◌}
 use mir.Syntax.{Lifetime}
@@ -130,7 +130,7 @@ board-sync = search (kept-send, book-send, book-sync, shared_sync, lease_sync, c
 pub pass-send : IsSend (Pass.the_row Kept.the_row Clockwork.the_row Entry.the_row kept)
 pass-send = search (kept-send, seat_send, crosses, sendable) depth 30
 
--- what a closure borrows
+-- The captures of a closure.
 pub captured-sync : (name : List ℕ) (l₁ l₂ l₃ l₄ : Lifetime) (κ₁ κ₂ κ₃ κ₄ : Lft) (A B C D : RattleType) → IsSync A → IsSync B → IsSync C → IsSync D
     → IsSync (TupleAt name (ShrRef l₁ κ₁ A ∷ ShrRef l₂ κ₂ B ∷ ShrRef l₃ κ₃ C ∷ ShrRef l₄ κ₄ D ∷ []))
 captured-sync name l₁ l₂ l₃ l₄ κ₁ κ₂ κ₃ κ₄ A B C D a b c d = search sendable depth 20

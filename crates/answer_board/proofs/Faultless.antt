@@ -1,4 +1,4 @@
--- What a posting is told whose answer was let through for its query.
+-- The reply to an answer that was accepted for its query.
 use Rattle.std.proofs.Common.{◌≡◌, ◌∙◌, ℕ, ◌<◌, ◌+◌, ◌==◌, Bool, true, false, not, nat_le, if◌then◌else◌, length, map, Option, Some, None, refl, sym, ap, subst, arith}
 use Rattle.std.proofs.lemmas.Bool.{false≢true}
 use Rattle.std.proofs.lemmas.Bool.Decides.{nat_tests}
@@ -25,7 +25,7 @@ use Rattle.auction_core.proofs.TakingLemmas.{taken-told, taken-turned}
 use Rattle.turn_lock.specs.declared.chronicle.PassKnowledge.{PassKnowledge}
 use Rattle.answer_board.specs.Posts.{IsPosted, StandsOn, is_faultless}
 
--- a valid answer that is looked at
+-- A valid answer that is taken.
 accepted-faultless : (sc : Scenario) (book : BookView) (state : CoreState) (w : ℕ) (answer : Answer) → is_faultless (accepted sc book state w answer).0 ≡ true
 accepted-faultless sc book state w (Fit delta) = refl
 accepted-faultless sc book state w (Refuted how) = refl
@@ -42,7 +42,7 @@ accepted-faultless sc book state w (Spent receipt) =
       | false ↦ last (length state.noted + 1 == length sc.workers)
     ]
 
--- one that is turned away, but not as a stranger's
+-- A posting that is turned away, but not for its worker.
 turned-faultless : (a b c : Bool) (n : ℕ) (reply : Reply) → c ≡ false → (if a then Some Ended else (if not b then Some (WrongQuery n) else (if c then Some Stranger else None))) ≡ Some reply → is_faultless reply ≡ true
 turned-faultless true b c n reply h e = let same : Ended ≡ reply = cc in subst (λ r. is_faultless r ≡ true) same refl
 turned-faultless false false c n reply h e = let same : WrongQuery n ≡ reply = cc in subst (λ r. is_faultless r ≡ true) same refl

@@ -1,4 +1,4 @@
--- What is said of an answer, and what a posting leaves.
+-- Verdicts on answers, and what a posting changes.
 use Rattle.std.proofs.Common.{◌≡◌, ◌∙◌, ℕ, true, false, List, [], ◌∷◌, ◌++◌, Option, Some, None, is_some, option_and_then, refl, sym, ap, subst, inl, inr, append_assoc}
 use Rattle.std.specs.Prelude.{slice_get, MatchOption}
 use Rattle.std.proofs.lemmas.Bool.{cases_Bool, false≢true}
@@ -32,28 +32,28 @@ use Rattle.turn_lock.specs.Turns.{StartsWith}
 use Rattle.answer_board.specs.Boards.{beginning_of}
 use Rattle.answer_board.specs.Posts.{IsPosted, IsTaken, StandsOn, left_by}
 
--- ---- the standing query
+-- ---- the current query
 
 pub none_from : {A : Type 0} (o : Option A) → false ≡ is_some o → o ≡ None
 none_from None e = refl
 none_from (Some x) e = absurd (false≢true e)
 
--- no query: the auction has ended
+-- Without a query the auction has ended.
 pub ended-of : (sc : Scenario) (book : BookView) (state : CoreState) → task_of sc book state ≡ None → has_ended state ≡ true
 ended-of sc book state none = elim (cases_Bool (has_ended state)) [
   | inl ended ↦ ended
   | inr on ↦ absurd (no-task sc book state on none)
 ]
 
--- ---- what is said of an answer
+-- ---- the verdict on an answer
 
--- a valid answer of the worker
+-- The verdict on a valid answer of the worker.
 pub good-stands : (sc : Scenario) (book : BookView) (state : CoreState) (w number : ℕ) (task : Task) (worker : Worker) (certified : Certificate) (answer : Answer) → task_of sc book state ≡ Some task → slice_get sc.workers w ≡ Some worker → certified.answer ≡ answer → IsValid book task worker answer → StandsFor sc book state (record { worker = w; number = number; said = Good certified }) answer
 good-stands sc book state w number task worker certified answer e f same v t =
     let of : IsValidOf sc book task w answer = subst (λ o. MatchOption o ⊥ (λ worker. IsValid book task worker answer)) (sym f) v in
     (same, subst (λ o. MatchOption o ⊥ (λ task. IsValidOf sc book task w answer)) (sym e) of)
 
--- the place of one that isn't valid
+-- The verdict on an invalid answer is its place.
 pub bad-stands : (sc : Scenario) (book : BookView) (state : CoreState) (w number : ℕ) (task : Task) (worker : Worker) (place : Place) (answer : Answer) → task_of sc book state ≡ Some task → slice_get sc.workers w ≡ Some worker → answer_fault book task worker answer ≡ Some place → StandsFor sc book state (record { worker = w; number = number; said = Bad place }) answer
 bad-stands sc book state w number task worker place answer e f fault t =
     ap (λ o. option_and_then (λ task. option_and_then (λ worker. answer_fault book task worker answer) (slice_get sc.workers w)) o) e
@@ -63,7 +63,7 @@ said-may : (sc : Scenario) (book : BookView) (state : CoreState) (posting : Post
 said-may sc book state posting answer (Good certified) h = subst (Answers sc book state posting.worker) (sym h.0) h.1
 said-may sc book state posting answer (Bad place) h = tt
 
--- what may be said of the answer may be taken
+-- A correct verdict may be taken.
 pub stands-may : (sc : Scenario) (book : BookView) (state : CoreState) (posting : Posting) (answer : Answer) → StandsFor sc book state posting answer → MayBeTaken sc book state posting
 stands-may sc book state posting answer h t = said-may sc book state posting answer posting.said (h t)
 
@@ -72,7 +72,7 @@ stands-may sc book state posting answer h t = said-may sc book state posting ans
 turned-kept : (sc : Scenario) (state : CoreState) (w number : ℕ) (reply : Reply) → turned_away sc state w number ≡ Some reply → (answer : Answer) → kept_answer reply answer ≡ None
 turned-kept sc state w number reply t answer = turned-cases sc state w number (λ r. kept_answer r answer ≡ None) reply refl refl refl t
 
--- the answer that is kept of a posting that was looked at is that of one that wasn't
+-- Whether the history keeps the same answer with and without a check.
 abbrev KeptAlike : Said → Answer → Reply → Type 0
 KeptAlike said answer reply = option_and_then (kept_answer reply) (let_through said) ≡ kept_answer reply answer
 
@@ -104,22 +104,22 @@ pub numbered-more : (es : List EntryView) (e : EntryView) → numbered (es ++ e 
 numbered-more [] e = refl
 numbered-more (x ∷ es) e = ap (λ l. (x.worker, x) ∷ l) (numbered-more es e)
 
--- the two began alike
+-- Whether two auctions began alike.
 abbrev pub AlikeBase : AuctionView → AuctionView → Type 0
 AlikeBase a b = beginning_of a ≡ beginning_of b
 
--- the history of an auction leaves its state
+-- Whether the history of an auction leads to its state.
 abbrev pub Replays : AuctionView → Type 0
 Replays a = replay_from a.scenario a.book a.history a.opened ≡ Some a.state
 
--- what a history leaves that is the one seen
+-- The state after the history that was seen.
 pub seen-replays : (made value : AuctionView) (seen : List (ℕ × EntryView)) → AlikeBase value made → numbered value.history ≡ seen → Replays value → left_by made seen ≡ Some value.state
 seen-replays made value seen base is h =
     ap (λ es. left_by made es) (sym is)
     ∙ (ap (λ es. replay_from made.scenario made.book es made.opened) (entries-numbered value.history)
     ∙ (ap (λ (s : ClockworkView). replay_from s.scenario s.book value.history s.state) (sym base) ∙ h))
 
--- what a posting in a turn leaves: the turn began at `mid`, and ends at `last`
+-- What a posting within a turn changes; the turn began at `mid` and ends at `last`.
 pub posted : (made value after : AuctionView) (posting : PostingView) (reply : Reply) (first mid last : PassKnowledge EntryView)
     → AlikeBase value made → numbered value.history ≡ mid.seen → Replays value → Replays after
     → IsTaken value after posting reply → StartsWith mid.seen first.seen → mid.mine ≡ first.mine
@@ -140,7 +140,7 @@ posted made value after posting reply first mid last base is h k taken begins sa
       mine = mine ∙ ap (λ l. l ++ (posting.worker, e) ∷ []) same;
     }
 
--- the same where nothing was done at first
+-- The same if nothing was done in an earlier turn.
 pub posted-from : (made : AuctionView) (posting : PostingView) (reply : Reply) (first mid last : PassKnowledge EntryView) → StartsWith mid.seen first.seen → mid.mine ≡ first.mine → IsPosted made posting mid last reply → IsPosted made posting first last reply
 posted-from made posting reply first mid last begins same h = record {
   before = h.before;
@@ -153,7 +153,7 @@ posted-from made posting reply first mid last begins same h = record {
   mine = h.mine ∙ ap (λ l. l ++ (posting.worker, entry_of posting reply) ∷ []) same;
 }
 
--- what is said of an answer is so in a turn
+-- The verdict on an answer is correct within the turn.
 pub stands-here : (made value : AuctionView) (first seen : List (ℕ × EntryView)) (posting : Posting) (answer : Answer) → StandsOn made first posting answer
     → AlikeBase value made → numbered value.history ≡ seen → Replays value → StartsWith seen first → StandsFor value.scenario value.book value.state posting answer
 stands-here made value first seen posting answer on base is replays begins =

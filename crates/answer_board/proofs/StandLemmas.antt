@@ -1,4 +1,4 @@
--- While a query's number stands, its task stands.
+-- While a query's number is current, its task is current.
 use Rattle.std.proofs.Common.{◌≡◌, ◌∙◌, ℕ, ◌<◌, ◌==◌, Bool, true, false, not, nat_le, if◌then◌else◌, List, [], ◌∷◌, ◌++◌, length, Option, Some, None, option_and_then, refl, sym, ap, subst, arith, inl, inr, ◌⊎◌, append_assoc, append-nil, eqb-true}
 use Rattle.std.specs.Prelude.{slice_get}
 use Rattle.pack_defs.specs.Book.{BookView}
@@ -29,7 +29,7 @@ use Rattle.answer_board.proofs.PostLemmas.{bad-stands, good-stands}
 
 -- ---- what postings change
 
--- the number is a later one, or only what is noted differs
+-- Whether the number is a later one, or only the pending receipts differ.
 abbrev Goes : CoreState → CoreState → Type 0
 Goes old new = (old.number < new.number) ⊎ (new ≡ record old { noted = new.noted })
 
@@ -67,7 +67,7 @@ replay-goes sc book (e ∷ es) state new s =
     ] in
     go (after_entry sc book state e e.answer) refl s
 
--- ---- histories that go on
+-- ---- histories that continue
 
 pub replay-more : (sc : Scenario) (book : BookView) (es fs : List EntryView) (state : CoreState) → replay_from sc book (es ++ fs) state ≡ option_and_then (replay_from sc book fs) (replay_from sc book es state)
 replay-more sc book [] fs state = refl
@@ -91,12 +91,12 @@ starts-on xs ys zs h k = (h.0 ++ k.0, k.1 ∙ (ap (λ l. l ++ k.0) h.1 ∙ appen
 pub starts-itself : {X : Type 0} (xs : List X) → StartsWith xs xs
 starts-itself xs = ([], sym (append-nil xs))
 
--- ---- a query that has stood
+-- ---- a query that was current
 
 pub stood-on : (made : AuctionView) (seen log : List (ℕ × EntryView)) (task : Task) → HasStood made seen task → StartsWith log seen → HasStood made log task
 stood-on made seen log task h k = record { before = h.before; begins = starts-on h.before seen log h.begins k; state = h.state; replays = h.replays; stands = h.stands }
 
--- it stands while its number does
+-- The query is current while its number is.
 pub stands-while : (made : AuctionView) (log : List (ℕ × EntryView)) (state : CoreState) (task : Task) → HasStood made log task → left_by made log ≡ Some state → state.number ≡ task.number → task_of made.scenario made.book state ≡ Some task
 stands-while made log state task h replays same =
     let rest = h.begins.0 in
@@ -116,7 +116,7 @@ number-in false true c n e = refl
 pub same-number : (sc : Scenario) (state : CoreState) (w number : ℕ) → turned_away sc state w number ≡ None → number ≡ state.number
 same-number sc state w number e = eqb-true number state.number (number-in (has_ended state) (number == state.number) (nat_le (length sc.workers) w) state.number e)
 
--- ---- what is said of an answer to it
+-- ---- the verdict on an answer to it
 
 pub good-on : (made : AuctionView) (seen : List (ℕ × EntryView)) (w number : ℕ) (task : Task) (worker : Worker) (certified : Certificate) (answer : Answer) → HasStood made seen task → number ≡ task.number → slice_get made.scenario.workers w ≡ Some worker → certified.answer ≡ answer → IsValid made.book task worker answer → StandsOn made seen (record { worker = w; number = number; said = Good certified }) answer
 good-on made seen w number task worker certified answer h n f same v log state begins replays t =

@@ -11,31 +11,33 @@ use Rattle.answer_board.specs.declared.board.Board.{Board}
 use Rattle.answer_board.specs.declared.kept.Kept.{Kept}
 use Rattle.answer_board.specs.Entries.{numbered}
 
--- what no posting changes of an auction: its scenario and its book, and the state in which it was opened
+-- What no posting changes of an auction: its scenario, its book, and its opening state.
 abbrev pub beginning_of : AuctionView → ClockworkView
 beginning_of auction = record { scenario = auction.scenario; book = auction.book; state = auction.opened; ready = true }
 
+-- What no posting changes of the auction behind the lock.
 abbrev pub kept_base : Kept → ClockworkView
 kept_base kept = beginning_of kept.auction
 
+-- The entries of the value behind the lock, each with its worker's number.
 abbrev pub kept_entries : Kept → List (ℕ × EntryView)
 kept_entries kept = numbered kept.auction.history
 
--- the auction that was put on the board
+-- The auction that was put on the board.
 abbrev pub raised : Board → AuctionView
 raised board = (made_over board.lock).auction
 
--- it is a pass to this board
+-- Whether this is a pass to the board.
 abbrev pub IsPassOn : {G : Ghosts Kept ClockworkView EntryView} → Board → Pass Kept ClockworkView EntryView G → Type 0
 IsPassOn board pass = IsPassOf kept_base kept_entries board.lock pass
 
--- a pass to this board, outside a turn: so it may be given to any call
+-- Whether this is a pass to the board that is outside of a turn, as every call needs it.
 pub record IsIdleOn {G : Ghosts Kept ClockworkView EntryView} (board : Board) (pass : Pass Kept ClockworkView EntryView G) : Type 0 where
   pub own : IsPassOn board pass
   pub idle : IsPassIdle pass
 
--- What a call leaves of a pass: the same pass, outside a turn, which has seen what it had seen, and knows rightly which entries
--- are its own.
+-- Whether a call leaves the same pass, outside of a turn, which has seen at least what it had seen and knows which
+-- entries are its own.
 pub record GoesOnIdle {G : Ghosts Kept ClockworkView EntryView} (board : Board) (old new : Pass Kept ClockworkView EntryView G) : Type 0 where
   pub own : IsPassOn board new
   pub idle : IsPassIdle new
@@ -43,6 +45,6 @@ pub record GoesOnIdle {G : Ghosts Kept ClockworkView EntryView} (board : Board) 
   pub seen : StartsWith (seen_of new) (seen_of old)
   pub legal : IsLegal new
 
--- these are all passes to the board, the first one in front
+-- Whether these are all the passes to the board, the first one in front.
 abbrev pub AreAllOn : Board → List (PassStanding ClockworkView EntryView) → Type 0
 AreAllOn board passes = AreAllOf kept_base kept_entries board.lock passes

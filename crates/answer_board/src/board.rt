@@ -1,4 +1,4 @@
-//! The board, and the passes to it.
+//! The board's type, and the passes to it.
 
 ghost use Rattle.std.specs.Arc.{arc_value};
 ghost use Rattle.std.specs.Prelude.{◌≡◌};
@@ -13,13 +13,13 @@ use turn_lock::lock::TurnLock;
 /// The right to look at a board and to post on it. Pass `i` posts as worker `i`.
 pub type Pass = turn_lock::lock::Pass<Kept>;
 
-/// An auction under a lock that serves its passes in the order in which they come. Beside the lock it keeps the
-/// book and the workers that answers are judged by, so that nobody has the turn while one is.
+/// An auction behind a lock that serves its passes in the order of their requests. Outside the lock the board keeps
+/// the book and the workers that answers are checked against, so that no turn is held during a check.
 ///
-/// It can't be dropped: `close` takes the auction off it.
+/// A board cannot be dropped: `close` takes the auction off it.
 pub struct Board {
     pub(crate) lock: TurnLock<Kept>,
-    // The auction's own book, with one owner more.
+    // A further owner of the auction's book.
     pub(crate) book: Arc<Book>,
     pub(crate) workers: Vec<Worker>,
     ghost book_is: { arc_value book ≡ (made_over lock).auction.book },

@@ -1,4 +1,4 @@
-//! How a board is raised, looked at and closed.
+//! Opens a board, looks at it and closes it.
 
 ghost use Rattle.std.specs.Prelude.{◌≡◌, ◌≤◌, IfErr, IfOk, length, map};
 ghost use Rattle.turn_lock.specs.Passes.{IsPassIdle, known_of, mine_of, seen_of, standing};
@@ -17,8 +17,11 @@ use std::sync::Wait;
 use turn_lock::lock::TurnLock;
 
 impl Board {
-    /// Puts an auction on a board, and gives so many passes to it: pass `i` of the list has the number `i`. The only error is
-    /// want of memory, or of room for one owner more of its book; the auction comes back.
+    /// Puts an auction on a board. Returns the board and `passes` passes to it; the pass at place `i` has number `i`.
+    ///
+    /// # Errors
+    ///
+    /// Fails if memory runs out, or if the reference count of the book would overflow. The auction is returned then.
     pub fn raise(
         alloc: Global,
         auction: Auction,
@@ -31,7 +34,7 @@ impl Board {
         ensures new { IfOk result (λ r. map known_of r.1.items ≡ each_new (numbered auction.history) passes) }
         ensures back { IfErr result (λ e. e.1 ≡ auction) }
     {
-        // For its clause alone: that the order is the one in which it was opened.
+        // Its contract says that the order is the one in which the auction was opened.
         auction.keeps_the_rule();
         let Ok(book) = auction.shared_book() else {
             return Err((NoMemory, auction));
@@ -52,14 +55,14 @@ impl Board {
         }
     }
 
-    /// The workers of the auction's scenario: worker `i` is the one as which pass `i` posts.
+    /// Returns the workers of the auction's scenario. Pass `i` posts as worker `i`.
     pub fn workers(&self) -> &[Worker]
         ensures { result.now ≡ (raised self.now).scenario.workers }
     {
         &self.workers
     }
 
-    /// What stands in the auction. It waits for its turn. The only error is want of memory.
+    /// Returns the current query, or that the auction has ended. Waits for its turn. Fails only if memory runs out.
     pub fn look<R: Wait>(&self, rt: &R, alloc: Global, pass: &mut Pass) -> Result<Look, NoMemory>
         requires idle { IsIdleOn self.now pass.old }
         ensures idle { GoesOnIdle self.now pass.old pass.new }
@@ -67,14 +70,15 @@ impl Board {
         ensures look { IfOk result (λ look. Sees (raised self.now) (seen_of pass.new) (λ state. LookIs (raised self.now).scenario (raised self.now).book state look)) }
     {
         let turn = self.lock.enter(rt, pass);
-        // For its clause alone: what the history replays to.
+        // Its contract says which state the history replays to.
         turn.value.auction.keeps_the_rule();
         let looked = what_stands(alloc, &turn.value.auction);
         self.lock.leave(pass, turn);
         looked
     }
 
-    /// The number of the standing query; once the auction has ended, one past the last. It waits for its turn.
+    /// Returns the number of the current query, or the number after the last query once the auction has ended. Waits
+    /// for its turn.
     pub fn current<R: Wait>(&self, rt: &R, pass: &mut Pass) -> u64
         requires idle { IsIdleOn self.now pass.old }
         ensures idle { GoesOnIdle self.now pass.old pass.new }
@@ -82,17 +86,19 @@ impl Board {
         ensures number { Sees (raised self.now) (seen_of pass.new) (λ state. result ≡ state.number) }
     {
         let turn = self.lock.enter(rt, pass);
-        // For its clause alone: what the history replays to.
+        // Its contract says which state the history replays to.
         turn.value.auction.keeps_the_rule();
         let number = turn.value.auction.number();
         self.lock.leave(pass, turn);
         number
     }
 
-    /// Takes the auction off the board, with all its passes, the first one in front, as `raise` gave them; the others may stand
-    /// in any order. It is of the scenario, book and order that were raised, and was opened in the same state. Its history begins
-    /// with what each pass has seen, and consists of the history that was raised and every pass's own entries, each once. It
-    /// doesn't wait.
+    /// Takes the auction off the board. `passes` are all of its passes, the first one in front and the others in any
+    /// order. Does not wait.
+    ///
+    /// The auction has the scenario, book and order that it was put on the board with, and the same opening state.
+    /// Its history begins with what each pass has seen. It consists of the history at the start and every pass's own
+    /// entries, each once.
     pub fn close(self, passes: Vec<Pass>) -> Auction
         requires all { AreAllOn self (map standing passes.items) }
         requires idle { AllOf IsPassIdle passes.items }
@@ -108,7 +114,7 @@ impl Board {
         drop(book);
         drop(workers);
         let Kept { auction } = lock.close(passes);
-        // For its clause alone: that the order is the one in which it was opened.
+        // Its contract says that the order is the one in which the auction was opened.
         auction.keeps_the_rule();
         auction
     }

@@ -1,4 +1,4 @@
-//! What lies under a board's lock.
+//! The value that a board keeps behind its lock.
 
 ghost use Rattle.std.specs.Prelude.{true};
 ghost use Rattle.answer_board.specs.Entries.{numbered};
@@ -8,7 +8,7 @@ use auction_core::clockwork::Clockwork;
 use auction_core::posting::Entry;
 use turn_lock::chronicle::Chronicle;
 
-/// An auction that is on a board. Its history is that of its postings, each with the number of its worker.
+/// An auction on a board. Its history is the list of its postings, each with the number of its worker.
 #[derive(Drop)]
 pub struct Kept {
     pub(crate) auction: Auction,

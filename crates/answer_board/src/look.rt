@@ -7,16 +7,16 @@ use auction_core::auction::Auction;
 use cert_types::task::Task;
 use std::alloc::{AllocError as NoMemory, Global};
 
-/// What stands in an auction.
+/// The current query of an auction, or its end.
 #[derive(Debug, Drop)]
 pub enum Look {
-    /// This query.
+    /// The current query.
     Task(Task),
-    /// No query any more.
+    /// The auction has ended.
     Ended,
 }
 
-/// What stands in the auction. The only error is want of memory.
+/// Returns the current query, or that the auction has ended. Fails only if memory runs out.
 pub(crate) fn what_stands(alloc: Global, auction: &Auction) -> Result<Look, NoMemory>
     ensures { IfOk result (LookIs auction.now.scenario auction.now.book auction.now.state) }
 {

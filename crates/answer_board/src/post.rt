@@ -1,4 +1,4 @@
-//! What a posting does in a turn.
+//! The part of a posting that runs within a turn. `postings` takes the turn and calls these functions.
 
 ghost use Rattle.std.specs.Prelude.{◌≡◌, IfErr, IfOk, None, Some, is_some, length, slice_get, true, ◌<◌};
 ghost use Rattle.cert_types.specs.declared.answer.Answer.{Answer};
@@ -13,23 +13,23 @@ use cert_types::task::Task;
 use pack_defs::worker::Worker;
 use std::alloc::{AllocError as NoMemory, Global};
 
-/// An answer that was not posted for want of memory. It comes back whole.
+/// An answer that was not posted because memory ran out.
 #[derive(Debug, Drop)]
 pub struct Unposted {
     pub answer: Answer,
 }
 
-/// What a posting comes to before its answer is looked at.
+/// The result of a posting before its answer is checked.
 #[derive(Drop)]
 pub(crate) enum Met {
-    /// It was turned away, and was told this.
+    /// The posting was turned away with this reply.
     Told(Reply),
-    /// This query stands, and the posting is of this worker.
+    /// The posting is for the current query, and is this worker's.
     Asked { task: Task, worker: Worker },
 }
 
-/// Posts where the posting is turned away, whatever its answer; else nothing is done, and the answer is to be looked at. The
-/// only error is want of memory, and nothing else has changed.
+/// Posts if the posting is turned away whatever its answer; otherwise changes nothing and returns what the answer is
+/// to be checked against. Fails only if memory runs out, and then nothing has changed.
 pub(crate) fn meets(
     alloc: Global,
     auction: &mut Auction,
@@ -51,14 +51,14 @@ fn turns_away(auction: &mut Auction, worker: u32, number: u64) -> Result<Met, No
     ensures met { IfOk result (HasMet auction.old auction.new worker number) }
     ensures stays { IfErr result (λ fault. StaysAs auction.old auction.new) }
 {
-    // Its answer isn't looked at, so any place would do.
+    // The answer is not checked, so any place will do.
     let Ok(reply) = tells(auction, worker, number, Said::Bad(Place::Kind)) else {
         return Err(NoMemory);
     };
     Ok(Met::Told(reply))
 }
 
-// What a posting is to be looked at for that isn't turned away.
+// Returns what the answer of a posting is to be checked against.
 fn asks(alloc: Global, auction: &Auction, worker: u32, number: u64) -> Result<Met, NoMemory>
     requires { turned_away auction.now.scenario auction.now.state worker number ≡ None }
     ensures { IfOk result (HasMet auction.now auction.now worker number) }
@@ -74,7 +74,7 @@ fn asks(alloc: Global, auction: &Auction, worker: u32, number: u64) -> Result<Me
     })
 }
 
-// The worker of a number.
+// Returns the worker with this number.
 fn worker_at(auction: &Auction, worker: u32) -> &Worker
     requires { worker < length auction.now.scenario.workers }
     ensures { slice_get auction.now.scenario.workers worker ≡ Some result.now }
@@ -82,8 +82,8 @@ fn worker_at(auction: &Auction, worker: u32) -> &Worker
     &auction.workers()[worker as usize]
 }
 
-// Whether the posting is turned away, whatever its answer: the auction has ended, another query stands, or there is no such
-// worker.
+// Whether the posting is turned away whatever its answer: the auction has ended, another query is current, or the
+// worker does not exist.
 fn is_turned_away(auction: &Auction, worker: u32, number: u64) -> bool
     ensures { result ≡ is_some (turned_away auction.now.scenario auction.now.state worker number) }
 {
@@ -96,8 +96,8 @@ fn is_turned_away(auction: &Auction, worker: u32, number: u64) -> bool
     auction.workers().len() <= worker as usize
 }
 
-/// Posts what is said of a worker's answer for the query of a number, and answers what it is told. The only error is want of
-/// memory: what was said comes back, and nothing else has changed.
+/// Posts the verdict on a worker's answer to the query with this number, and returns the reply. If memory runs out,
+/// returns the verdict, and nothing else has changed.
 pub(crate) fn tells(
     auction: &mut Auction,
     worker: u32,

@@ -1,4 +1,4 @@
-//! How an answer is posted on a board: nobody has the turn while an answer is looked at.
+//! Posts answers on a board. An answer is checked between two turns, so that no worker waits for a check.
 
 ghost use Rattle.std.specs.Prelude.{◌≡◌, IfErr, IfOk, Some, slice_get, true};
 ghost use Rattle.cert_types.specs.Query.{IsQuery};
@@ -19,10 +19,14 @@ use std::snapshot::Snapshot;
 use std::sync::Wait;
 
 impl Board {
-    /// Posts an answer for the query of a number, whoever it comes from, and answers what it is told. Unless the posting is
-    /// turned away, the answer is judged by `certify_query` for the query that stands, outside any turn, and posted in a second
-    /// one. It waits for its turns. The only error is want of memory: the answer comes back, the pass's own postings stand, and
-    /// the same may be posted again.
+    /// Posts an answer to the query with this number, and returns the reply. Unless the posting is turned away,
+    /// `certify_query` checks the answer against the current query outside of any turn, and a second turn posts the
+    /// verdict. Waits for its turns.
+    ///
+    /// # Errors
+    ///
+    /// Fails only if memory runs out. The answer is returned, the pass's own entries stay, and the answer may be
+    /// posted again.
     pub fn post<R: Wait>(
         &self,
         rt: &R,
@@ -46,11 +50,14 @@ impl Board {
         }
     }
 
-    /// Posts an answer that was let through, by a look at it or since its solver's contract says that it is valid, and answers
-    /// what it is told: nothing of it is looked at again. The pass has seen the query that it was let through for stand, whose
-    /// number is given beside it, and it was let through for the pass's worker: so it may come too late, but it is never told
-    /// that it is a stranger's or at fault. It waits for its turn. The only error is want of memory: the answer comes back, the
-    /// pass's own postings stand, and the same may be posted again.
+    /// Posts an answer that was accepted, by a check or by its solver's contract, and returns the reply. The answer
+    /// is not checked again. The pass must have seen the query current for which the answer was accepted, and the
+    /// answer must be its worker's. So the answer may be late, but it is never rejected. Waits for its turn.
+    ///
+    /// # Errors
+    ///
+    /// Fails only if memory runs out. The answer is returned, the pass's own entries stay, and the answer may be
+    /// posted again.
     pub fn post_certified<R: Wait>(
         &self,
         rt: &R,
@@ -79,7 +86,7 @@ impl Board {
         }
     }
 
-    // Posts an answer that is at fault at this place.
+    // Posts an answer that is invalid at this place.
     fn post_rejected<R: Wait>(
         &self,
         rt: &R,
@@ -102,7 +109,7 @@ impl Board {
         }
     }
 
-    // Looks at an answer, and posts it.
+    // Checks an answer, and posts it.
     fn judges<R: Wait>(
         &self,
         rt: &R,
@@ -135,7 +142,7 @@ impl Board {
         }
     }
 
-    // The first turn of a posting whose answer nobody has looked at.
+    // The first turn of a posting whose answer is not checked yet.
     fn meets<R: Wait>(
         &self,
         rt: &R,
@@ -150,7 +157,7 @@ impl Board {
     {
         let worker = pass.number();
         let mut turn = self.lock.enter(rt, pass);
-        // For its clause alone: what the history replays to.
+        // Its contract says which state the history replays to.
         turn.value.auction.keeps_the_rule();
         match meets(alloc, &mut turn.value.auction, worker, number) {
             Ok(Met::Told(reply)) => {
@@ -170,7 +177,7 @@ impl Board {
         }
     }
 
-    // A turn in which what was said of an answer is posted.
+    // Posts the verdict on an answer, within a turn.
     fn tells<R: Wait>(
         &self,
         rt: &R,
@@ -186,11 +193,11 @@ impl Board {
         ensures back { IfErr result (λ back. back ≡ said) }
         ensures mine { IfErr result (λ back. mine_of pass.new ≡ mine_of pass.old) }
     {
-        // It stands in the contract alone: the answer itself is in `said`, or with the caller.
+        // The answer is in the contract only: `said` or the caller has its value.
         let _ = answer;
         let worker = pass.number();
         let mut turn = self.lock.enter(rt, pass);
-        // For its clause alone: what the history replays to.
+        // Its contract says which state the history replays to.
         turn.value.auction.keeps_the_rule();
         match tells(&mut turn.value.auction, worker, number, said) {
             Ok(reply) => {

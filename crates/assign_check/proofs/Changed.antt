@@ -1,5 +1,4 @@
--- A map of which some channels are changed: the pairs of the changed stations, by one look-up each, and that they decide what
--- the map violates.
+-- For `changes`: the pairs of the changed stations, with one lookup for each, decide what a changed map violates.
 use Rattle.std.proofs.Common.{◌≡◌, ℕ, ◌+◌, ◌<◌, Bool, true, false, cond, ◌==◌, ◌&&◌, ◌||◌, List, [], ◌∷◌, drop, filter, length, get_or, Some, None, nat_eq, option_map, find, Contains, inl, inr, refl, sym, ap, ◌∙◌, eqb-true, eq-eqb}
 use Rattle.std.specs.List.{list_any}
 use Rattle.std.specs.Option.{option_or, option_eq}
@@ -22,7 +21,7 @@ use Rattle.assign_check.proofs.Violations.{from_own, is_violated_from, own-chann
 
 -- ---- an entry of the map
 
--- the entry stands where its channel is the changed one, or without a change the last one
+-- the map has the entry if its channel is the changed one, or the last one without a change
 pub stands-changed : (s c d : ℕ) (last changes : List (ℕ × ℕ)) → IsAscending last → IsAscending changes → channel_of s changes ≡ Some d → nat_eq d c ≡ has_entry (overlaid last changes) (s, c)
 stands-changed s c d last changes a b e =
     let known : channel_of s (overlaid last changes) ≡ Some d = over-channel s last changes b ∙ ap (λ o. option_or o (channel_of s last)) e in
@@ -33,12 +32,12 @@ stands-unchanged s c last changes a b e =
     let known : channel_of s (overlaid last changes) ≡ channel_of s last = over-channel s last changes b ∙ ap (λ o. option_or o (channel_of s last)) e in
     sym (stands-exactly s c last a) ∙ ap (λ o. option_eq nat_eq o (Some c)) (sym known) ∙ stands-exactly s c (overlaid last changes) (overlaid-ascending last changes a)
 
--- what the search is to know at `stands`
+-- the rules for `stands`
 pub ruleset standing = (stands-changed, stands-unchanged)
 
 -- ---- the pairs of a changed station
 
--- the pair is on this entry's channel at its second station, and its other entry stands in the map
+-- the pair is on this entry's channel at its second station, and its other entry is in the map
 abbrev pub is_violated_to : List (ℕ × ℕ) → ℕ × ℕ → Pair → Bool
 is_violated_to entries own p = (p.b == own.1) && has_entry entries (p.f, p.a)
 
@@ -48,7 +47,7 @@ and_swap true false = refl
 and_swap false true = refl
 and_swap false false = refl
 
--- which is what it says that a pair to the entry's station is violated
+-- hence a pair to the entry's station is violated
 to_own : (entries : List (ℕ × ℕ)) (own : ℕ × ℕ) (p : Pair) → IsAscending entries → has_entry entries own ≡ true → p.g ≡ own.0 → is_violated_to entries own p ≡ is_violated entries p
 to_own entries own p a h e =
     ap (λ b. b && has_entry entries (p.f, p.a)) (sym (own-channel entries own p.b a h) ∙ ap (λ (g : ℕ). has_entry entries (g, p.b)) (sym e))
@@ -72,7 +71,7 @@ changed-to last changes own pairs a b h =
     let map = overlaid last changes in
     any-agrees (λ p. p.g == own.0) (is_violated_to map own) (is_violated map) pairs (λ p e. to_own map own p (overlaid-ascending last changes a) (change-stands last changes own b h) (eqb-true p.g own.0 e))
 
--- ---- a pass over a list stands at one that passes a test
+-- ---- a pass over a list is at an item that passes a test
 
 pub any-here : {A : Type 0} (p : A → Bool) (xs : List A) (i : ℕ) (d : A) → i < length xs → p (get_or xs i d) ≡ true → list_any p (drop i xs) ≡ true
 any-here p xs i d l t =
@@ -96,7 +95,7 @@ at-second book map changes p there h own =
 none-of-pairs : (book : BookView) (entries : List (ℕ × ℕ)) → violation book entries ≡ None → list_any (is_violated entries) book.pairs ≡ false
 none-of-pairs book entries e = found-none (is_violated entries) book.pairs (mapped-none Violates (find (is_violated entries) book.pairs) e)
 
--- a violated pair of the map is one of a changed station, where the last map violates none
+-- if the last map violates no pair, a violated pair of the new map is of a changed station
 violated-at : (book : BookView) (last changes : List (ℕ × ℕ)) (p : Pair) → violation book last ≡ None → Contains book.pairs p → is_violated (overlaid last changes) p ≡ true → violates_at_some book (overlaid last changes) changes ≡ true
 violated-at book last changes p none there h =
     let map = overlaid last changes in
@@ -117,7 +116,7 @@ none-kept book entries keep none =
     both_ways (list_any (is_violated entries) book.pairs) (none-of-pairs book entries none)
     (list_any-from (is_violated entries) book.pairs p (Contains-from_filter keep book.pairs p c).0 h)))
 
--- where the last map violates no pair, the map violates none exactly where none of a changed station is violated
+-- if the last map violates no pair, the new one violates none exactly if no pair of a changed station is violated
 pub none-violated_changed : (book : BookView) (last changes : List (ℕ × ℕ)) → violation book last ≡ None → violates_at_some book (overlaid last changes) changes ≡ false → violation book (overlaid last changes) ≡ None
 none-violated_changed book last changes none e =
     let map = overlaid last changes in

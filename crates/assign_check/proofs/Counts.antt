@@ -1,4 +1,4 @@
--- How many pairs a map violates, of one station and of all, before and after a station moves.
+-- For `assignment`: how many pairs a map violates, of one station and of all, before and after a station moves.
 use Rattle.std.proofs.Common.{◌≡◌, ℕ, ◌+◌, ◌-◌, ◌<◌, ◌≤◌, Bool, true, false, not, cond, ◌==◌, ◌&&◌, ◌||◌, nat_lt, List, [], ◌∷◌, filter, count_by, take, take_all, length, get_or, inl, inr, refl, sym, subst, ap, ◌∙◌, arith, eqb-true}
 use Rattle.std.specs.List.{list_any}
 use Rattle.std.proofs.lemmas.Bool.{and_parts, or_cases, or_parts, both_ways, false_from_ne_true, lt-ltb, true≢false}
@@ -17,21 +17,21 @@ use Rattle.assign_check.proofs.Violations.{from_own, is_violated_from, own-chann
 
 -- ---- counts of any list
 
--- one for what passes
+-- 1 for what passes
 abbrev pub one_if : Bool → ℕ
 one_if b = cond b 1 0
 
 pub counted-cons : {X : Type 0} (p : X → Bool) (x : X) (xs : List X) → count_by p (x ∷ xs) ≡ one_if (p x) + count_by p xs
 counted-cons p x xs = sum_by-cons (λ y. cond (p y) 1 0) x xs
 
--- two tests that agree count alike
+-- two equal tests count the same
 pub counts-agree : {X : Type 0} (p q : X → Bool) (xs : List X) → ((x : X) → p x ≡ q x) → count_by p xs ≡ count_by q xs
 counts-agree p q [] same = refl
 counts-agree p q (x ∷ xs) same =
     let here : one_if (p x) ≡ one_if (q x) = ap one_if (same x) in
     omega (arith, counted-cons p x xs, counted-cons q x xs, here, counts-agree p q xs same)
 
--- what is counted among those that are kept is what is kept and counted
+-- counting among the filtered items
 pub counts-kept : {X : Type 0} (keep p : X → Bool) (xs : List X) → count_by p (filter keep xs) ≡ count_by (λ x. keep x && p x) xs
 counts-kept keep p [] = refl
 counts-kept keep p (x ∷ xs) =
@@ -44,19 +44,19 @@ counts-kept keep p (x ∷ xs) =
           omega (arith, counted-cons (λ x. keep x && p x) x xs, here, counts-kept keep p xs)
     ]) refl
 
--- two tests that together say as much as two others count as much
+-- two tests that together equal two others count as much
 pub counts-even : {X : Type 0} (p q r s : X → Bool) (xs : List X) → ((x : X) → one_if (p x) + one_if (q x) ≡ one_if (r x) + one_if (s x)) → count_by p xs + count_by q xs ≡ count_by r xs + count_by s xs
 counts-even p q r s [] even = refl
 counts-even p q r s (x ∷ xs) even =
     omega (arith, counted-cons p x xs, counted-cons q x xs, counted-cons r x xs, counted-cons s x xs, even x, counts-even p q r s xs even)
 
--- a test that splits in two
+-- a test that is the sum of two
 pub counts-split : {X : Type 0} (p q r : X → Bool) (xs : List X) → ((x : X) → one_if (p x) ≡ one_if (q x) + one_if (r x)) → count_by p xs ≡ count_by q xs + count_by r xs
 counts-split p q r [] split = refl
 counts-split p q r (x ∷ xs) split =
     omega (arith, counted-cons p x xs, counted-cons q x xs, counted-cons r x xs, split x, counts-split p q r xs split)
 
--- no more passes both tests than passes one
+-- at most as many pass both tests as pass one
 pub counts-fewer : {X : Type 0} (p q : X → Bool) (xs : List X) → count_by (λ x. p x && q x) xs ≤ count_by q xs
 counts-fewer p q [] = omega arith
 counts-fewer p q (x ∷ xs) =
@@ -66,7 +66,7 @@ counts-fewer p q (x ∷ xs) =
     ] in
     omega (arith, counted-cons (λ x. p x && q x) x xs, counted-cons q x xs, here, counts-fewer p q xs)
 
--- there is one where one passes
+-- the count is above 0 if some item passes
 pub counts-any : {X : Type 0} (p : X → Bool) (xs : List X) → nat_lt 0 (count_by p xs) ≡ list_any p xs
 counts-any p [] = refl
 counts-any p (x ∷ xs) =
@@ -76,7 +76,7 @@ counts-any p (x ∷ xs) =
       | false ↦ let same : 0 + count_by p xs ≡ count_by p xs = omega arith in ap (nat_lt 0) same ∙ counts-any p xs
     ]
 
--- none where none passes
+-- the count is 0 if no item passes
 pub counts-none : {X : Type 0} (p : X → Bool) (xs : List X) → ((x : X) → p x ≡ false) → count_by p xs ≡ 0
 counts-none p [] none = refl
 counts-none p (x ∷ xs) none =
@@ -87,9 +87,9 @@ guarded : (b u v : Bool) → (b ≡ true → u ≡ v) → (b && u) ≡ (b && v)
 guarded true u v same = same refl
 guarded false u v same = refl
 
--- ---- of one station and of all
+-- ---- the pairs of one station and of all
 
--- a station's violated pairs are those from it and those to it, less those of the latter that are among the former
+-- a station's violated pairs are those from it, and those to it that are not also from it
 split-test : (f g v : Bool) → one_if ((f || g) && v) ≡ one_if (f && v) + one_if (g && (not f && v))
 split-test true true true = refl
 split-test true true false = refl
@@ -109,7 +109,7 @@ station-fewer book entries s = counts-fewer (is_of s) (is_violated entries) book
 
 -- ---- a station moves
 
--- an entry of another station stands as before
+-- an entry of another station stays
 other-step : (x y z : ℕ × ℕ) (b : Bool) → (x.0 == z.0) ≡ false → (same_entry x z || b) ≡ b
 other-step x y z b other = ap (λ c. (c && (x.1 == z.1)) || b) other
 
@@ -128,7 +128,7 @@ put-other x z (y ∷ ys) other =
           ]) refl
     ])
 
--- and so does a pair of other stations
+-- a pair of other stations stays violated, or not
 pub other-pair : (x : ℕ × ℕ) (xs : List (ℕ × ℕ)) (p : Pair) → is_of x.0 p ≡ false → is_violated (put x xs) p ≡ is_violated xs p
 other-pair x xs p other =
     let parts = or_parts (p.f == x.0) (p.g == x.0) other in
@@ -144,20 +144,20 @@ even-test true false true same = refl
 even-test true false false same = refl
 even-test false new old same = ap (λ b. one_if b + 0) (same refl)
 
--- what all pairs lose and win is what the station's own do
+-- the change of all violated pairs is the change of the station's own
 pub moved : (book : BookView) (x : ℕ × ℕ) (xs : List (ℕ × ℕ)) → violations book (put x xs) + violations_of book xs x.0 ≡ violations book xs + violations_of book (put x xs) x.0
 moved book x xs =
     counts-even (is_violated (put x xs)) (λ p. is_of x.0 p && is_violated xs p) (is_violated xs) (λ p. is_of x.0 p && is_violated (put x xs) p) book.pairs
     (λ p. even-test (is_of x.0 p) (is_violated (put x xs) p) (is_violated xs p) (other-pair x xs p))
 
--- a station's are no more than all
+-- a station has at most as many violated pairs as there are
 pub at-most : (book : BookView) (xs : List (ℕ × ℕ)) (s n before : ℕ) → IsCounted book xs n → before ≡ violations_of book xs s → before ≤ n
 at-most book xs s n before h is =
     let few = station-fewer book xs s in
     let all = h.violated in
     omega (arith, few, all, is)
 
--- and their number is kept by what the station's own were and are
+-- the new count follows from the station's own pairs before and after
 pub counted-moved : (book : BookView) (x : ℕ × ℕ) (xs : List (ℕ × ℕ)) (n before after : ℕ) → IsCounted book xs n → before ≡ violations_of book xs x.0 → after ≡ violations_of book (put x xs) x.0 → IsCounted book (put x xs) (n - before + after)
 counted-moved book x xs n before after h was is =
     let even = moved book x xs in
@@ -171,14 +171,14 @@ counted-moved book x xs n before after h was is =
 
 -- ---- the pairs of one station
 
--- what is violated of the pairs from an entry's station, by its channel
+-- the violated pairs from an entry's station, by its channel
 pub from-station : (entries : List (ℕ × ℕ)) (own : ℕ × ℕ) (pairs : List Pair) → IsAscending entries → has_entry entries own ≡ true → count_by (is_violated_from entries own) (filter (λ p. p.f == own.0) pairs) ≡ count_by (λ p. (p.f == own.0) && is_violated entries p) pairs
 from-station entries own pairs a h =
     counts-kept (λ p. p.f == own.0) (is_violated_from entries own) pairs
     ∙ counts-agree (λ p. (p.f == own.0) && is_violated_from entries own p) (λ p. (p.f == own.0) && is_violated entries p) pairs
     (λ p. guarded (p.f == own.0) (is_violated_from entries own p) (is_violated entries p) (λ e. from_own entries own p a h (eqb-true p.f own.0 e)))
 
--- and of those to it, from another station
+-- the violated pairs to an entry's station from another one
 abbrev pub is_violated_to : List (ℕ × ℕ) → ℕ × ℕ → Pair → Bool
 is_violated_to entries own p = (p.b == own.1) && (not (p.f == own.0) && has_entry entries (p.f, p.a))
 
@@ -238,7 +238,7 @@ one-more entries pairs i a l =
     ap (λ b. one_if (b && is_violated entries p)) (has_station-more entries i p.f (0, 0) l ∙ ap (λ b. has_station (take i entries) p.f || b) (eq_swap x.0 p.f))
     ∙ more-test (has_station (take i entries) p.f) (p.f == x.0) (is_violated entries p) (λ h. station-fresh entries i p.f (0, 0) a l h))
 
--- and all of them, at the end
+-- at the end of the pass: all violated pairs
 all-test : (entries : List (ℕ × ℕ)) (p : Pair) → (has_station entries p.f && is_violated entries p) ≡ is_violated entries p
 all-test entries p =
     (elim (is_violated entries p) as (λ b. is_violated entries p ≡ b → (has_station entries p.f && b) ≡ b) [

@@ -1,4 +1,4 @@
--- What a pass over a list says of the first element that passes a test.
+-- For the loops of `check`: what a pass over a list finds as the first item that passes a test.
 use Rattle.std.proofs.Common.{◌≡◌, ℕ, ◌+◌, ◌<◌, Bool, true, false, cond, ◌==◌, ◌||◌, List, [], ◌∷◌, drop, length, get_or, Option, Some, None, find, refl, sym, ap, ◌∙◌}
 use Rattle.std.specs.Option.{option_or, is_some}
 use Rattle.std.proofs.lemmas.Bool.{cond-true, cond-false}
@@ -7,7 +7,7 @@ use Rattle.pack_defs.specs.Lists.{has_station}
 use Rattle.pack_defs.specs.ChannelMap.{channel_of}
 pub use Rattle.pack_defs.proofs.MapLemmas.{stands-exactly, stands-only, stands-where}
 
--- the first answer, or else the second
+-- the first result, or else the second
 pub or-first : {A : Type 0} (a b : Option A) (x : A) → a ≡ Some x → Some x ≡ option_or a b
 or-first None b x e = cc
 or-first (Some y) b x e = sym e
@@ -16,7 +16,7 @@ pub or-second : {A : Type 0} (a b : Option A) → a ≡ None → b ≡ option_or
 or-second None b e = refl
 or-second (Some y) b e = cc
 
--- the pass stands at an element that passes, or goes on behind one that doesn't
+-- the pass is at an item that passes, or continues after one that does not
 pub found-here : {A : Type 0} (p : A → Bool) (xs : List A) (i : ℕ) (d : A) → i < length xs → p (get_or xs i d) ≡ true → find p (drop i xs) ≡ Some (get_or xs i d)
 found-here p xs i d l t =
     ap (find p) (drop_more xs i d l) ∙ cond-true (p (get_or xs i d)) (Some (get_or xs i d)) (find p (drop (i + 1) xs)) t
@@ -25,7 +25,7 @@ pub found-later : {A : Type 0} (p : A → Bool) (xs : List A) (i : ℕ) (d : A) 
 found-later p xs i d l f =
     ap (find p) (drop_more xs i d l) ∙ cond-false (p (get_or xs i d)) (Some (get_or xs i d)) (find p (drop (i + 1) xs)) f
 
--- the map has a channel of the station exactly where it has an entry of it
+-- the map has a channel for the station exactly if it has an entry of the station
 pub channel-known : (s : ℕ) (m : List (ℕ × ℕ)) → is_some (channel_of s m) ≡ has_station m s
 channel-known s [] = refl
 channel-known s (x ∷ xs) =

@@ -1,4 +1,4 @@
--- What a map that is overwritten says of its stations: their channels, its entries, and which stations it has.
+-- A map with entries written over it: the channels, the entries and the stations.
 use Rattle.std.proofs.Common.{◌≡◌, ℕ, Bool, true, false, ◌==◌, nat_lt, if◌then◌else◌, List, [], ◌∷◌, Option, Some, None, ◌⊎◌, inl, inr, refl, sym, ap, ◌∙◌, subst, eqb-true}
 use Rattle.std.specs.Option.{option_or, is_some}
 use Rattle.std.proofs.lemmas.Bool.{cond-true, or_cases, or_left, or_right, false≢true}
@@ -11,19 +11,19 @@ or_if : (b : Bool) (c : ℕ) (o : Option ℕ) → (if b then Some c else o) ≡ 
 or_if true c o = refl
 or_if false c o = refl
 
--- x replaces y: they are of one station
+-- x replaces y: both are of one station
 replaces : (b d : Bool) (c e : ℕ) (o : Option ℕ) → (b ≡ false → d ≡ false) → (if b then Some c else o) ≡ option_or (if b then Some c else None) (if d then Some e else o)
 replaces true d c e o f = refl
 replaces false true c e o f = let no : true ≡ false = f refl in absurd (false≢true (sym no))
 replaces false false c e o f = refl
 
--- y stands before x: they are of two stations
+-- y is before x: they are of two stations
 passes : (b d : Bool) (c e : ℕ) (o : Option ℕ) → (d ≡ true → b ≡ false) → (if d then Some e else option_or (if b then Some c else None) o) ≡ option_or (if b then Some c else None) (if d then Some e else o)
 passes true true c e o f = let no : true ≡ false = f refl in absurd (false≢true (sym no))
 passes false true c e o f = refl
 passes b false c e o f = refl
 
--- the channel of a station once an entry is put into a map
+-- the channel of a station after an entry is put into a map
 pub put-channel : (s : ℕ) (x : ℕ × ℕ) (m : List (ℕ × ℕ)) → channel_of s (put x m) ≡ option_or (channel_of s (x ∷ [])) (channel_of s m)
 put-channel s x [] = or_if (x.0 == s) x.1 None
 put-channel s x (y ∷ ys) =
@@ -43,7 +43,7 @@ or_assoc : (a b c : Option ℕ) → option_or a (option_or b c) ≡ option_or (o
 or_assoc None b c = refl
 or_assoc (Some x) b c = refl
 
--- the channel of a station in a map overwritten: the new entries' where they have one, else the map's
+-- the channel of a station after entries are written over a map: the new one, or else the map's
 pub overlaid-channel : (s : ℕ) (m d : List (ℕ × ℕ)) → channel_of s (overlaid m d) ≡ option_or (channel_of s (overlaid [] d)) (channel_of s m)
 overlaid-channel s m [] = refl
 overlaid-channel s m (x ∷ xs) =
@@ -52,17 +52,17 @@ overlaid-channel s m (x ∷ xs) =
     or_assoc (channel_of s (overlaid [] xs)) (channel_of s (x ∷ [])) (channel_of s m) ∙
     ap (λ o. option_or o (channel_of s m)) (sym (overlaid-channel s (x ∷ []) xs))
 
--- where the new entries ascend, they are a map
+-- if the new entries ascend, they are a map
 pub over-channel : (s : ℕ) (m d : List (ℕ × ℕ)) → IsAscending d → channel_of s (overlaid m d) ≡ option_or (channel_of s d) (channel_of s m)
 over-channel s m d a =
     overlaid-channel s m d ∙ ap (λ es. option_or (channel_of s es) (channel_of s m)) (overlaid-none d a)
 
--- each of them stands in the map that they leave
+-- the new map has each of the new entries
 pub change-stands : (m d : List (ℕ × ℕ)) (own : ℕ × ℕ) → IsAscending d → has_entry d own ≡ true → has_entry (overlaid m d) own ≡ true
 change-stands m d own a h =
     stands-where own.0 own.1 (overlaid m d) (over-channel own.0 m d a ∙ ap (λ o. option_or o (channel_of own.0 m)) (stands-only own.0 own.1 d a h))
 
--- ---- where an entry of the map comes from
+-- ---- the source of an entry of the map
 
 put-from : (y x : ℕ × ℕ) (m : List (ℕ × ℕ)) → has_entry (put y m) x ≡ true → (same_entry y x ≡ true) ⊎ (has_entry m x ≡ true)
 put-from y x [] h = or_cases (same_entry y x) false h
@@ -86,7 +86,7 @@ put-from y x (z ∷ zs) h =
     ] in
     go (nat_lt y.0 z.0) (y.0 == z.0) h
 
--- an entry of a map overwritten is one of the new entries, or the map's
+-- an entry of the new map is one of the new entries, or the map's
 pub overlaid-from : (m d : List (ℕ × ℕ)) (x : ℕ × ℕ) → has_entry (overlaid m d) x ≡ true → (has_entry d x ≡ true) ⊎ (has_entry m x ≡ true)
 overlaid-from m [] x h = inr h
 overlaid-from m (y ∷ ys) x h =
@@ -98,7 +98,7 @@ overlaid-from m (y ∷ ys) x h =
       ]
     ]
 
--- ---- which stations it has
+-- ---- the stations of the map
 
 some-second : (a b : Option ℕ) → is_some b ≡ true → is_some (option_or a b) ≡ true
 some-second None b h = h
@@ -113,13 +113,13 @@ put-has x m s e =
     sym (channel-known s (put x m)) ∙ ap is_some (put-channel s x m)
     ∙ some-first (channel_of s (x ∷ [])) (channel_of s m) (ap is_some (cond-true (x.0 == s) (Some x.1) None e))
 
--- the map's own
+-- the old stations
 pub overlaid-keeps : (m d : List (ℕ × ℕ)) (s : ℕ) → has_station m s ≡ true → has_station (overlaid m d) s ≡ true
 overlaid-keeps m d s h =
     sym (channel-known s (overlaid m d)) ∙ ap is_some (overlaid-channel s m d)
     ∙ some-second (channel_of s (overlaid [] d)) (channel_of s m) (channel-known s m ∙ h)
 
--- and those of the new entries
+-- and the new ones
 pub overlaid-has : (m d : List (ℕ × ℕ)) (s : ℕ) → has_station d s ≡ true → has_station (overlaid m d) s ≡ true
 overlaid-has m [] s h = cc
 overlaid-has m (x ∷ xs) s h =

@@ -1,4 +1,4 @@
--- The first violated pair of the book, by the pairs from each station of the map.
+-- For `check`: the first violated pair of the book is found by the pairs from each station of the map.
 use Rattle.std.proofs.Common.{◌≡◌, ℕ, zero, suc, ◌+◌, ◌<◌, ◌≤◌, Bool, true, false, cond, ◌==◌, ◌&&◌, ◌||◌, List, [], ◌∷◌, map, filter, take, length, get_or, Some, None, find, nat_eq, inl, inr, Contains, refl, sym, subst, ap, ◌∙◌, arith, eqb-true, eq-eqb}
 use Rattle.std.specs.List.{list_any}
 use Rattle.std.specs.List.Sorted.{IsNonDecreasingBy}
@@ -15,7 +15,7 @@ use Rattle.assign_check.specs.Fault.{is_violated}
 use Rattle.assign_check.proofs.Faultless.{found-none, none-found}
 use Rattle.assign_check.proofs.Finds.{stands-exactly, stands-only}
 
--- the pair is on this entry's channel, and its other entry stands in the map
+-- the pair is on this entry's channel, and its other entry is in the map
 abbrev pub is_violated_from : List (ℕ × ℕ) → ℕ × ℕ → Pair → Bool
 is_violated_from entries own p = (p.a == own.1) && has_entry entries (p.g, p.b)
 
@@ -25,7 +25,7 @@ own-channel entries own c a h =
     let known : channel_of own.0 entries ≡ Some own.1 = stands-only own.0 own.1 entries a h in
     sym (stands-exactly own.0 c entries a) ∙ ap (λ o. option_eq nat_eq o (Some c)) known ∙ eq_swap own.1 c
 
--- which is what it says that a pair from the entry's station is violated
+-- hence a pair from the entry's station is violated
 pub from_own : (entries : List (ℕ × ℕ)) (own : ℕ × ℕ) (p : Pair) → IsAscending entries → has_entry entries own ≡ true → p.f ≡ own.0 → is_violated_from entries own p ≡ is_violated entries p
 from_own entries own p a h e =
     ap (λ b. b && has_entry entries (p.g, p.b)) (sym (own-channel entries own p.a a h) ∙ ap (λ (f : ℕ). has_entry entries (f, p.a)) (sym e))
@@ -42,7 +42,7 @@ pub violated-from : (entries : List (ℕ × ℕ)) (own : ℕ × ℕ) (pairs : Li
 violated-from entries own pairs a h =
     find-agrees (λ p. p.f == own.0) (is_violated_from entries own) (is_violated entries) pairs (λ p e. from_own entries own p a h (eqb-true p.f own.0 e))
 
--- ---- the first of all is the first of the first station that has one
+-- ---- the first pair of all is the first pair of the first station that has one
 
 find-gives : (t : Pair → Bool) (ps : List Pair) (q : Pair) → find t ps ≡ Some q → Contains ps q
 find-gives t [] q e = cc
@@ -116,7 +116,7 @@ violated-station : (entries : List (ℕ × ℕ)) (p : Pair) → is_violated entr
 violated-station entries p h =
     station-has entries (p.f, p.a) (and_parts (has_entry entries (p.f, p.a)) (has_entry entries (p.g, p.b)) h).0
 
--- one that isn't among the first is the next or a later one
+-- a station that is not among the first is the next or a later one
 next-or_later : (entries : List (ℕ × ℕ)) (i f : ℕ) → IsAscending entries → has_station (take i entries) f ≡ false → has_station entries f ≡ true → (get_or entries i (0, 0)).0 ≤ f
 next-or_later [] i f a n h = cc
 next-or_later (x ∷ xs) zero f a n h =

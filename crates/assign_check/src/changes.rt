@@ -1,4 +1,4 @@
-//! A channel map of which some channels are changed, without a copy of it: what it violates at the changed stations.
+//! What a channel map violates at the stations that were changed, without a copy of the map.
 
 ghost use Rattle.std.specs.Prelude.{◌≡◌, ◌==◌, IsTrue, filter};
 ghost use Rattle.std.specs.List.{list_any};
@@ -10,10 +10,9 @@ ghost use Rattle.assign_check.specs.Fault.{is_violated};
 use pack_defs::book::Book;
 use pack_defs::channel_map::ChannelMap;
 
-/// Whether a pair of one of the changed stations has both its entries in the map that `changes` put over `last` give. Where
-/// `last` violates no pair, that decides whether this map does. It takes no memory, and costs what the pairs of the changed
-/// stations cost: four searches by halves for them, a pass over them, and two searches for each that is on its station's
-/// channel.
+/// Checks whether a pair of some changed station has both entries in the map that `changes` written over `last` gives. If `last`
+/// violates no pair, this decides whether the new map violates one. Takes no memory. Each changed station costs four binary
+/// searches and a pass over its pairs. Each pair that is on the station's channel costs up to two more searches.
 pub fn violates_at_some(book: &Book, last: &ChannelMap, changes: &ChannelMap) -> bool
     ensures { result ≡ violates_at_some book.now (overlaid last.now changes.now) changes.now }
 {

@@ -1,4 +1,4 @@
-//! The check of a channel map on a set of stations: what is wrong with it first.
+//! The check of a channel map on a set of stations. Fits of solvers and of transcripts pass through here.
 
 ghost use Rattle.std.specs.Prelude.{◌≡◌, ◌==◌, IsTrue, filter, find};
 ghost use Rattle.pack_defs.specs.ChannelMap.{IsAscending};
@@ -10,12 +10,16 @@ use pack_defs::book::Book;
 use pack_defs::channel_map::ChannelMap;
 use pack_defs::pair::Pair;
 
-/// What is wrong first with a channel map on a set of stations, ascending: the least station of the set that has no
-/// channel, else the least one with a channel that isn't in the set, else the least one off its domain, else the first
-/// pair of the book of which both entries stand in the map. None says that the map is clean and has exactly these
-/// stations. It takes no memory, and costs what the map and its stations' pairs cost: a search by halves in the map for
-/// each station of the set; for each station of the map one in the set, one for its domain and a pass over that, two for
-/// the pairs from it and a pass over those, and one in the map for each of those that is on the station's channel.
+/// Returns the first fault of a channel map on an ascending set of stations. `None` says that the map is clean and of exactly the
+/// set. The faults in order are:
+///
+/// - the least station of the set without a channel,
+/// - the least station with a channel that is not in the set,
+/// - the least station whose channel is not in its domain,
+/// - the first pair of the book with both entries in the map.
+///
+/// Takes no memory. Costs one binary search for each station of the set. Each station of the map costs four, and passes over its
+/// domain and the pairs from it. Each pair that is on its station's channel costs one more.
 pub fn first_fault(book: &Book, set: &[u32], map: &ChannelMap) -> Option<MapFault>
     requires { IsTrue (is_ascending set.now) }
     ensures { result ≡ first_fault book.now set.now map.now }
@@ -33,7 +37,7 @@ pub fn first_fault(book: &Book, set: &[u32], map: &ChannelMap) -> Option<MapFaul
     violation(book, map)
 }
 
-// The least station of the set that has no channel.
+// Returns the least station of the set without a channel.
 fn missing(set: &[u32], map: &ChannelMap) -> Option<MapFault>
     ensures { result ≡ missing set.now map.now }
 {
@@ -45,7 +49,7 @@ fn missing(set: &[u32], map: &ChannelMap) -> Option<MapFault>
     None
 }
 
-// The first station of the entries that isn't in the set.
+// Returns the first station of the entries that is not in the set.
 fn extra(set: &[u32], entries: &[(u32, u8)]) -> Option<MapFault>
     requires { IsTrue (is_ascending set.now) }
     ensures { result ≡ extra set.now entries.now }
@@ -58,7 +62,7 @@ fn extra(set: &[u32], entries: &[(u32, u8)]) -> Option<MapFault>
     None
 }
 
-// The first station of the entries that is off its domain.
+// Returns the first station of the entries whose channel is not in its domain.
 fn off_domain(book: &Book, entries: &[(u32, u8)]) -> Option<MapFault>
     ensures { result ≡ off_domain book.now entries.now }
 {
@@ -70,9 +74,8 @@ fn off_domain(book: &Book, entries: &[(u32, u8)]) -> Option<MapFault>
     None
 }
 
-/// The first pair of the book of which both entries stand in the map, if there is one. It takes no memory, and costs two
-/// searches by halves for the pairs from each of the map's stations, a pass over them, and a search for each of those that is
-/// on the station's channel.
+/// Returns the first pair of the book with both entries in the map, if there is one. Takes no memory. Each station of the map costs
+/// two binary searches and a pass over the pairs from it. Each pair that is on the station's channel costs one more search.
 pub fn violation(book: &Book, map: &ChannelMap) -> Option<MapFault>
     requires { IsAscending map.now }
     ensures { result ≡ violation book.now map.now }
@@ -86,7 +89,7 @@ pub fn violation(book: &Book, map: &ChannelMap) -> Option<MapFault>
     None
 }
 
-// The first of the pairs from this entry's station of which both entries stand in the map.
+// Returns the first pair from this entry's station with both entries in the map.
 fn violated_from(book: &Book, map: &ChannelMap, own: (u32, u8)) -> Option<Pair>
     requires ascending { IsAscending map.now }
     requires own { IsTrue (has_entry map.now own) }

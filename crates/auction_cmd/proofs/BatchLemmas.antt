@@ -1,4 +1,4 @@
--- What may be relied on of a batch follows from how it ends.
+-- The promises of `batch` follow from how it ends.
 use Rattle.std.proofs.Common.{◌≡◌, ◌≢◌, ◌==◌, ◌⊎◌, ◌≤◌, ◌∙◌, if◌then◌else◌, ℕ, Bool, true, false, inl, inr, List, [], ◌∷◌, length, map, refl, sym, ap, subst, arith, Some, All}
 use Rattle.std.specs.Prelude.{Err, IsTrue, MatchOption, Ok, Result}
 use Rattle.std.specs.List.{AllZip, list_any}
@@ -54,7 +54,7 @@ either-status false false status is = inl is
 
 -- ---- what each line gets
 
--- where the own status is 0, the auction was carried through and no test was left open
+-- if an auction's own status is 0, it was completed and no test is undecided
 all-decided : (ending : Ending) (U : List ClockTest) → ended_status ending (done_status U) ≡ 0 → (ending ≡ Done) × (U ≡ [])
 all-decided Done U zero = (refl, none-open U zero)
 all-decided StartRefuted U zero = absurd (omega arith)
@@ -64,7 +64,7 @@ module _ (files new : List StoredFile) (names : BatchNames) where
   abbrev Held : NamedText → Type 0
   Held x = bytes_of new x.name ≡ Some x.text
 
-  -- the text of a line, if there is one, and those behind it
+  -- the text of a line, if there is one, and those after it
   heads : (name : List ℕ) (text : List ℕ) (ending : Ending) (rest : List NamedText) → All Held (with_text name (ended_text ending text) rest) → (ending ≡ Done → bytes_of new name ≡ Some text) × All Held rest
   heads name text Done rest h = ((λ done. All-head Held (record { name = name; text = text }) rest h), All-tail Held (record { name = name; text = text }) rest h)
   heads name text StartRefuted rest h = ((λ done. cc), h)
@@ -126,7 +126,7 @@ module _ (names : BatchNames) (before after : Outside) (status : ℕ) (batch : L
   abbrev run-of-reached : IsReached → IsBatchRun names before batch
   run-of-reached r = record { held = r.held; accepted = r.accepted; auctions = r.auctions }
 
-  -- How far a batch came: its reading stopped; memory ran out before anything was stored; or all was carried out.
+  -- how far a batch came: its reading stopped, memory ran out before anything was stored, or all was carried out
   data Came : Type 0 where
     Stopped : IsBatchStopped names before after status → batch ≡ [] → Came
     Starved : status ≡ 8 → IsSaid before after memory_line → after.files ≡ before.files → batch ≡ [] → Came
@@ -169,7 +169,7 @@ module _ (names : BatchNames) (before after : Outside) (status : ℕ) (batch : L
   never : (n : ℕ) → status ≡ batch_status batch → status ≡ n → is_in (0 ∷ 1 ∷ 11 ∷ []) n ≡ false → ⊥
   never n is at out = off (0 ∷ 1 ∷ 11 ∷ []) status n (subst (λ z. IsTrue (is_in (0 ∷ 1 ∷ 11 ∷ []) z)) (sym is) (batch-within batch)) at out
 
-  -- ---- what was stored and said
+  -- ---- what was stored and written
 
   batch-done : Came → IsTrue (is_in (0 ∷ 1 ∷ 11 ∷ []) status) →
       (run : IsBatchRun names before batch) × (status ≡ batch_status batch) × Writes before.held after.held (status_lines run.held.lines batch) (Ok tt)
@@ -185,7 +185,7 @@ module _ (names : BatchNames) (before after : Outside) (status : ℕ) (batch : L
       go (NotStored x four part rises unsteady said) = absurd (off (0 ∷ 1 ∷ 11 ∷ []) status 4 h four refl)
       go (OutOfRoom x eight part said) = absurd (off (0 ∷ 1 ∷ 11 ∷ []) status 8 h eight refl)
 
-  -- of a told folder the texts have names of their own
+  -- in a modelled folder the texts have different names
   apart-texts : (r : IsReached) (files : List StoredFile) → before.files ≡ Some files → AreApart (batch_texts r.held batch)
   apart-texts r files told =
       let read = read-batch files names r.held (r.accepted files told) in
@@ -366,7 +366,7 @@ module _ (names : BatchNames) (before after : Outside) (status : ℕ) (batch : L
   batch-missing files own input (Starved eight said same none) told steady is = inl eight
   batch-missing files own input (Reached r) told steady is = absurd (not-both r.held (Unread own (CannotRead input)) (sym (r.accepted files told) ∙ is))
 
-  -- where the files hold a batch, a reading that stopped did so for want of memory or by a fault
+  -- if the files hold a batch, a reading stops only because memory ran out or by a fault of the folder
   stopped-held : (files : List StoredFile) (held : HeldBatch) (n : ℕ) → IsBatchStopped names before after status → before.files ≡ Some files → batch_of files names ≡ Ok held → IsOr n before status
   stopped-held files held n s told is = by s.stop (s.told files told) s.explains
     where

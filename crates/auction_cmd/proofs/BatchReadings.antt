@@ -1,4 +1,4 @@
--- What was read of a batch: each line's inputs are those that `run` alone would read, and the results have names of their own.
+-- What was read for a batch: the inputs of each line are those that `run` alone would read, and the results have different names.
 use Rattle.std.proofs.Common.{◌≡◌, ◌≢◌, ◌∙◌, ℕ, List, [], ◌∷◌, ◌++◌, map, refl, sym, ap, subst, append_assoc, Option, Some, None}
 use Rattle.std.specs.Prelude.{Contains, Err, Ok, Result, find}
 use Rattle.std.specs.List.{AllZip}
@@ -40,7 +40,7 @@ once-ok : (lines own : List ListedNames) (o : Option (List ℕ)) → once_each l
 once-ok lines own None e = let same : own ≡ lines = cc in (refl, same)
 once-ok lines own (Some name) e = cc
 
--- what was read, as a reading gives it
+-- the constraint files that were read, as a reading returns them
 abbrev constraints-as : Constraints → Result Constraints Stop
 constraints-as c = Ok c
 
@@ -55,7 +55,7 @@ held-as held = Ok held
 
 -- ---- one line
 
--- the inputs beside constraint files are those of all three files
+-- the inputs after the constraint files are those of all three files
 beside-inputs : (files : List StoredFile) (names : BatchNames) (own scenario : List ℕ) (c : Constraints) (inputs : Inputs) → constraints_of files (inputs_with names own) ≡ Ok c → inputs_beside files c scenario ≡ Ok inputs →
     inputs_of files (inputs_with names scenario) ≡ Ok inputs
 unfolding constraints_of inputs_beside inputs_of sources_of
@@ -88,14 +88,14 @@ each-own files names own c (line ∷ lines) inputs are e =
     same-list : (a b : List Inputs) → inputs-as a ≡ inputs-as b → a ≡ b
     same-list a b k = cc
 
--- ---- the whole
+-- ---- the batch
 
--- what a batch that was read is made of
+-- the parts of a batch that was read
 pub record IsReadBatch (files : List StoredFile) (names : BatchNames) (held : HeldBatch) : Type 0 where
   pub once : repeated_result (names_in_words names) held.lines ≡ None
   pub own : AllZip (λ (line : ListedNames) i. inputs_of files (inputs_with names line.scenario) ≡ Ok i) held.lines held.inputs
 
--- the constraint files of what was listed
+-- the constraint files of a listing
 listed-constraints : (files : List StoredFile) (names : BatchNames) (own : List ℕ) (listed : ListedView) → listing_of files (inputs_with names own) ≡ Ok listed → constraints_of files (inputs_with names own) ≡ Ok listed.constraints
 unfolding listing_of
 listed-constraints files names own listed e =
@@ -124,9 +124,9 @@ read-batch files names held e =
     same-held : (a b : HeldBatch) → held-as a ≡ held-as b → a ≡ b
     same-held a b k = cc
 
--- ---- names of their own
+-- ---- different names
 
--- each name is other than those behind it
+-- each name differs from those after it
 abbrev Distinct : List (List ℕ) → Type 0
 Distinct [] = Unit {0}
 Distinct (x ∷ xs) = IsOther xs x × Distinct xs
@@ -173,6 +173,6 @@ texts-apart (line ∷ lines) (Some text ∷ texts) h = (texts-other lines texts 
 pub own-results : (words : List (List ℕ)) (lines : List ListedNames) (texts : List (Option (List ℕ))) → repeated_result words lines ≡ None → AreApart (texts_under lines texts)
 own-results words lines texts once = texts-apart lines texts (distinct-results words lines once)
 
--- a name that is none of the results' is none of the texts'
+-- a name that is not one of the results' is not one of the texts'
 pub other-results : (lines : List ListedNames) (texts : List (Option (List ℕ))) (name : List ℕ) → IsOther (map (λ (l : ListedNames). l.result) lines) name → IsOther (names_of (texts_under lines texts)) name
 other-results = texts-other

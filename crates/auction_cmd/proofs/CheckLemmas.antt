@@ -1,4 +1,4 @@
--- What may be relied on of `check` follows from how it ends.
+-- The promises of `check` follow from how it ends.
 use Rattle.std.proofs.Common.{◌≡◌, ◌≢◌, ◌⊎◌, ◌≤◌, ℕ, inl, inr, List, [], ◌∷◌, length, refl, arith, Option, Some, None}
 use Rattle.std.specs.Prelude.{Ok, IsTrue}
 use Rattle.pack_defs.specs.Lists.{is_in}

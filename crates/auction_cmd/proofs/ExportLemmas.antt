@@ -1,4 +1,4 @@
--- What may be relied on of `export` follows from how it ends, case by case.
+-- The promises of `export` follow from how it ends, case by case.
 use Rattle.std.proofs.Common.{◌≡◌, ◌≢◌, ◌⊎◌, ◌<◌, ◌∙◌, ℕ, true, inl, inr, List, [], ◌∷◌, length, refl, sym, ap, subst, arith, Option, Some, None}
 use Rattle.std.specs.Prelude.{Ok, Err, IsTrue, MatchOption}
 use Rattle.std.proofs.lemmas.List.Elements.{All-nil}
@@ -39,9 +39,9 @@ use Rattle.auction_cmd.proofs.VerifyCases.{verify-memory}
 use Rattle.auction_cmd.proofs.VerifyEndLemmas.{is-given, not-both-verified, not-long, same-record, same-verified, unloaded-statuses}
 use Rattle.auction_cmd.proofs.VerifyLemmas.{verify-promises}
 
--- ---- a transcript that shows nothing
+-- ---- a transcript that does not verify
 
--- where it ended as `verify` without a record
+-- if `export` ended as `verify` without a record
 pub unshown-statuses : (names : VerifyNames) (before after : Outside) (status : ℕ) (found : Option Record) → VerifyEnds names before after status found → found ≡ None → IsTrue (is_in (3 ∷ 5 ∷ 8 ∷ 9 ∷ []) status)
 unshown-statuses names before after status found (VerifyStopped s none) absent = within (3 ∷ 5 ∷ 8 ∷ []) (3 ∷ 5 ∷ 8 ∷ 9 ∷ []) status refl (stopped-statuses names.inputs before after status s)
 unshown-statuses names before after status found (VerifyStarved s) absent = one-of (3 ∷ 5 ∷ 8 ∷ 9 ∷ []) status 8 s.status_is refl
@@ -49,7 +49,7 @@ unshown-statuses names before after status found (NotLoaded inputs are n none sa
 unshown-statuses names before after status found (NotSound inputs text fault are can held is nine none said same) absent = one-of (3 ∷ 5 ∷ 8 ∷ 9 ∷ []) status 9 nine refl
 unshown-statuses names before after status found (Sound inputs text rec are can held is of kept p) absent = cc (sym kept ∙ absent)
 
--- what `verify` would have carried through wasn't, for want of memory or since a folder that isn't steady failed
+-- what `verify` would have completed was not completed because memory ran out or an unsteady folder failed
 pub unshown-or : (names : VerifyNames) (before after : Outside) (status wanted : ℕ) (found : Option Record) (files : List StoredFile) (inputs : Inputs) (text : List ℕ) (rec : Record) → VerifyEnds names before after status found → found ≡ None → before.files ≡ Some files → IsGiven files names inputs text → verified inputs text ≡ Ok rec → IsOr wanted before status
 unshown-or names before after status wanted found files inputs text rec end none told g ok =
     let v : VerifyPromises names before after status found = verify-promises names before after status found end in
@@ -62,16 +62,16 @@ unshown-or names before after status wanted found files inputs text rec end none
 
 -- ---- a sound transcript
 
--- what is shown is what the files hold
+-- what verifies is what the files hold
 pub shown-given : (files : List StoredFile) (names : VerifyNames) (before : Outside) (inputs : Inputs) (rec : Record) → before.files ≡ Some files → (s : IsShown names before inputs rec) → IsGiven files names inputs s.text
 shown-given files names before inputs rec told s = is-given files names before inputs s.text told s.accepted s.held
 
--- and it is the one thing that is verified
+-- and it is the only result of the check
 pub shown-is : (files : List StoredFile) (names : VerifyNames) (before : Outside) (own inputs : Inputs) (text : List ℕ) (rec other : Record) → before.files ≡ Some files → IsShown names before own rec → IsGiven files names inputs text → verified inputs text ≡ Ok other → rec ≡ other
 shown-is files names before own inputs text rec other told s g ok =
     same-record rec other (verified own s.text) s.sound (same-verified files names own inputs s.text text (shown-given files names before own rec told s) g ∙ ok)
 
--- a transcript that is shown isn't refused
+-- a transcript that verifies is not rejected
 pub shown-not-refused : {X : Type 0} (files : List StoredFile) (names : VerifyNames) (before : Outside) (own inputs : Inputs) (text : List ℕ) (rec : Record) (fault : TranscriptFault) → before.files ≡ Some files → IsShown names before own rec → IsGiven files names inputs text → verified inputs text ≡ Err fault → X
 shown-not-refused files names before own inputs text rec fault told s g err =
     absurd (not-both-verified rec fault (verified own s.text) s.sound (same-verified files names own inputs s.text text (shown-given files names before own rec told s) g ∙ err))
@@ -129,7 +129,7 @@ module _ (names : ExportNames) (before after : Outside) (status : ℕ) (found : 
   export-silent (FormulaStored inputs rec s is zero none stored) z = stored.held
   export-silent (FormulaNotStored inputs rec s is none not) zero = absurd (off (4 ∷ 8 ∷ []) status 0 (unstored-statuses (text inputs rec) not) zero refl)
 
-  -- of a told folder the text was stored
+  -- in a modelled folder the text was stored
   stored-told : (files : List StoredFile) (x : NamedText) → before.files ≡ Some files → IsStored x before after → MatchOption after.files ⊥ (λ new. AreStored files new (x ∷ []))
   stored-told files x told stored = all-more x [] before after after stored (all-none after after refl) files told (All-nil (λ name. x.name ≢ name), tt)
 

@@ -1,4 +1,4 @@
--- What may be relied on of `import` follows from how it ends, case by case.
+-- The promises of `import` follow from how it ends, case by case.
 use Rattle.std.proofs.Common.{◌≡◌, ◌≢◌, ◌⊎◌, ◌<◌, ◌≤◌, ◌∙◌, ℕ, true, inl, inr, List, [], ◌∷◌, length, refl, sym, ap, subst, arith, Option, Some, None}
 use Rattle.std.specs.Prelude.{Contains, Ok, Err, Result, IsSome, IsTrue, MatchOption, is_some, ⊤}
 use Rattle.std.proofs.lemmas.Bool.{true≢false}
@@ -51,13 +51,13 @@ use Rattle.auction_cmd.proofs.VerifyEndLemmas.{no-text, over, same-text, unloade
 use Rattle.auction_cmd.proofs.VerifyLemmas.{verify-promises}
 use Rattle.auction_cmd.proofs.VerifyReadings.{is-there}
 
--- ---- two that are one
+-- ---- equal records and texts
 
--- the step of two records that are one
+-- the step of two equal records
 same-fault : (names : ImportNames) (rec other : Record) → rec ≡ other → open_fault (step_numbered rec.steps names.step) ≡ open_fault (step_numbered other.steps names.step)
 same-fault names rec other same = ap (λ (r : Record). open_fault (step_numbered r.steps names.step)) same
 
--- what two texts settle that are one
+-- what two equal texts decide
 same-settled : (names : ImportNames) (a b : Inputs) (rec other : Record) (s t : List ℕ) → a ≡ b → rec ≡ other → s ≡ t → settled_text a.book rec names.step s ≡ settled_text b.book other names.step t
 same-settled names a b rec other s t p q r = λ i. settled_text (p i).book (q i) names.step (r i)
 
@@ -67,7 +67,7 @@ ok-not-err r a b ok err = cc (sym ok ∙ err)
 same-ok : {A B : Type 0} (r : Result A B) (a b : A) → r ≡ Ok a → r ≡ Ok b → a ≡ b
 same-ok r a b p q = cc (sym p ∙ q)
 
--- where there is a record, no output name is given twice
+-- if there is a record, no output name is given twice
 abbrev pub IsOnce : ImportNames → Option Record → Type 0
 IsOnce names found = (found ≡ None) ⊎ (repeated_import names ≡ None)
 
@@ -81,7 +81,7 @@ module _ (names : ImportNames) (before after : Outside) (status : ℕ) (found : 
       → Ended (import_texts names inputs new) (summary_in new.order inputs (undecided_of new.steps)) (done_status (undecided_of new.steps)) before after status
   ended inputs new d = ended-of (import_texts names inputs new) _ _ before after status d
 
-  -- the two texts have names of their own
+  -- the two texts have different names
   apart : (inputs : Inputs) (new : Record) → found ≡ Some new → IsOnce names found → AreApart (import_texts names inputs new)
   apart inputs new some once =
       own-imports names (result_of new.order inputs (undecided_of new.steps)) (transcript_text inputs.scenario inputs.book new) (once-named names found new some once)
@@ -113,7 +113,7 @@ module _ (names : ImportNames) (before after : Outside) (status : ℕ) (found : 
   import-backed (NotSettled inputs rec log fault s is held err ten none said same) = absent found none
   import-backed (Settled inputs rec log new s is held ok own kept some d) = rw some (some-record new.order inputs new own.backed (λ done. own.packing))
 
-  -- where there is no record nothing was stored
+  -- without a record nothing was stored
   pub import-kept : ImportEnds names before after status found → found ≡ None → after.files ≡ before.files
   import-kept (NothingShown end none) absent = let v = verify-promises names.shown before after status found end in v.untouched
   import-kept (ImportStarved s) absent = s.files
@@ -131,7 +131,7 @@ module _ (names : ImportNames) (before after : Outside) (status : ℕ) (found : 
   import-recorded (NotSettled inputs rec log fault s is held err ten none said same) h = absurd (off (0 ∷ 1 ∷ 4 ∷ []) status 10 h ten refl)
   import-recorded (Settled inputs rec log new s is held ok own kept some d) h = (inputs, new, s.accepted, some, own)
 
-  -- ---- a step that is settled
+  -- ---- a step that is decided
 
   abbrev sound-in : (files : List StoredFile) (inputs : Inputs) (rec : Record) → before.files ≡ Some files → IsShown names.shown before inputs rec → IsSoundIn files names.shown
   sound-in files inputs rec told s = record { inputs = inputs; text = s.text; given = shown-given files names.shown before inputs rec told s; rec = rec; shown = s.sound }
@@ -161,7 +161,7 @@ module _ (names : ImportNames) (before after : Outside) (status : ℕ) (found : 
         verifiable = record-verified files names.shown.inputs inputs new accepted s.named own.backed own.ending kept;
       }
 
-  -- what a delivery left, whatever came of it
+  -- what a delivery left, however it ended
   abbrev Left : Inputs → Record → Type 0
   Left inputs new = Ended (import_texts names inputs new) (summary_in new.order inputs (undecided_of new.steps)) (done_status (undecided_of new.steps)) before after status
 
@@ -201,7 +201,7 @@ module _ (names : ImportNames) (before after : Outside) (status : ℕ) (found : 
       go (NotStored y four part rises unsteady said) = absurd (off (0 ∷ 1 ∷ []) status 4 h four refl)
       go (OutOfRoom y eight part said) = absurd (off (0 ∷ 1 ∷ []) status 8 h eight refl)
 
-  -- ---- what was not stored, or not said
+  -- ---- what was not stored or not written
 
   import-stored : (files : List StoredFile) → ImportEnds names before after status found → IsOnce names found → before.files ≡ Some files → status ≡ 4 → IsUnimported files names before after found ⊎ IsUnsummed files names before after found
   import-stored files (NothingShown end none) once told four = absurd (off (3 ∷ 5 ∷ 8 ∷ 9 ∷ []) status 4 (unshown-statuses names.shown before after status found end none) four refl)
@@ -266,7 +266,7 @@ module _ (names : ImportNames) (before after : Outside) (status : ℕ) (found : 
   import-paid files inputs rec f valued is bought =
       threshold inputs.scenario inputs.book rec.order f (accepted-ascend files names.shown.inputs inputs is) (accepted-values files names.shown.inputs inputs valued is) bought
 
-  -- ---- a step or a log that is refused
+  -- ---- a step or a log that is rejected
 
   abbrev Cause : (files : List StoredFile) → IsSoundIn files names.shown → Type 0
   Cause files s =
@@ -282,7 +282,7 @@ module _ (names : ImportNames) (before after : Outside) (status : ℕ) (found : 
   import-refused files (NotSettled inputs rec log fault s is held err ten none said same) told t = (sound-in files inputs rec told s, inr (log, fault, log-in files log told held, is, err, said))
   import-refused files (Settled inputs rec log new s is held ok own kept some d) told ten = absurd (off (0 ∷ 1 ∷ 4 ∷ 8 ∷ []) status 10 (delivered-statuses inputs new d) ten refl)
 
-  -- the record that is shown is the sound one
+  -- the record that verifies is that of the sound transcript
   one-record : (files : List StoredFile) (inputs : Inputs) (rec : Record) (s : IsSoundIn files names.shown) → before.files ≡ Some files → IsShown names.shown before inputs rec → rec ≡ s.rec
   one-record files inputs rec s told own = shown-is files names.shown before inputs s.inputs s.text rec s.rec told own s.given s.shown
 
@@ -378,7 +378,7 @@ module _ (names : ImportNames) (before after : Outside) (status : ℕ) (found : 
   import-refuses_long files inputs bytes (NotSettled own rec log f s at held e ten none said same) told ok is more = shown-not-long files names.shown before own rec bytes told s is more
   import-refuses_long files inputs bytes (Settled own rec log new s at held fine of kept some d) told ok is more = shown-not-long files names.shown before own rec bytes told s is more
 
-  -- a log that is held isn't too long
+  -- a log that is held is not too long
   held-not-long : {X : Type 0} (files : List StoredFile) (own bytes : List ℕ) → before.files ≡ Some files → IsFileHeld names.proof before own → bytes_of files names.proof ≡ Some bytes → file_limit < length bytes → X
   held-not-long files own bytes told held is more =
       absurd (over file_limit (length own) (subst (λ z. file_limit < length z) (same-text bytes own (sym is ∙ (held files told).0)) more) (held files told).1)
@@ -421,7 +421,7 @@ module _ (names : ImportNames) (before after : Outside) (status : ℕ) (found : 
   import-untouched : ImportEnds names before after status found → IsTrue (is_in (3 ∷ 5 ∷ 9 ∷ 10 ∷ []) status) → after.files ≡ before.files
   import-untouched end h = import-kept end (import-unrecorded end (within (3 ∷ 5 ∷ 9 ∷ 10 ∷ []) (2 ∷ 3 ∷ 5 ∷ 9 ∷ 10 ∷ []) status refl h))
 
-  -- ---- the outside's faults
+  -- ---- the faults of the outside
 
   pub import-unread : ImportEnds names before after status found → status ≡ 3 → HasRisen before.faults after.faults
   import-unread (NothingShown end none) three = let v = verify-promises names.shown before after status found end in v.unread three
@@ -441,7 +441,7 @@ module _ (names : ImportNames) (before after : Outside) (status : ℕ) (found : 
   import-surely_read files (NotSettled inputs rec log fault s is held err ten none said same) told steady four there = λ three. omega arith
   import-surely_read files (Settled inputs rec log new s is held ok own kept some d) told steady four there = λ three. off (0 ∷ 1 ∷ 4 ∷ 8 ∷ []) status 3 (delivered-statuses inputs new d) three refl
 
-  -- of a steady folder it is memory alone that stops what should have gone on
+  -- in a steady folder only memory can stop what should continue
   for-memory : before.steady ≡ true → IsOr 8 before status → status ≡ 8
   for-memory steady (inl eight) = eight
   for-memory steady (inr (inl eight)) = eight

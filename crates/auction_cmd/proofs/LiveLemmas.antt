@@ -1,4 +1,4 @@
--- What may be relied on of a live auction.
+-- The promises of a live auction.
 use Rattle.std.proofs.Common.{◌≡◌, ◌∙◌, ◌≤◌, ◌-◌, ◌||◌, ℕ, cond, eqb, not, List, [], ◌∷◌, length, nat_lt, refl, sym, ap, ap₂, subst, inl, inr, Option, Some, None}
 use Rattle.std.specs.Prelude.{Contains, MatchOption, Result, Ok, Err, IsSome, ⊤}
 use Rattle.std.proofs.lemmas.Bool.{cases_Bool, ltb-false}
@@ -33,7 +33,7 @@ use Rattle.commands.specs.Records.{outcome}
 use Rattle.command_words.specs.Words.{InputNames, RunNames, VerifyNames}
 use Rattle.commands.proofs.ReadingLemmas.{accepted-ascend, accepted-valued, accepted-values, said-ok, then-ok, valued-values}
 
--- what a file holds, if it was taken
+-- the bytes of a file, if they were accepted
 bytes-ok : (held : Option (List ℕ)) (bytes : List ℕ) → bytes_within OwnersFile held ≡ Ok bytes → (held ≡ Some bytes) × (length bytes ≤ file_limit)
 bytes-ok None bytes e = cc
 bytes-ok (Some own) bytes e =
@@ -69,7 +69,7 @@ accepted-live files names owners inputs e named =
       live = same;
     }
 
--- the row that a station's answers give hangs on its own lines
+-- the row of a station depends on the station's own answers
 same-told : (sc : Scenario) (a b : List OwnerLine) (s : ℕ) (xs : List Told) → ((r : ℕ) → stays a r s ≡ stays b r s) → row_told (with_owners sc (Some a)) s xs ≡ row_told (with_owners sc (Some b)) s xs
 same-told sc a b s [] agree = refl
 same-told sc a b s (x ∷ xs) agree =
@@ -84,7 +84,7 @@ module _ (sc : Scenario) (book : BookView) (a b : List OwnerLine) (one other : O
   abbrev second : Scenario
   second = with_owners sc (Some b)
 
-  -- two live auctions, in whichever orders, in which its lines agree and its answers
+  -- two live auctions, in any orders, that agree on a station's answers and verdicts
   same-row : Contains (facilities sc) s → ((r : ℕ) → stays a r s ≡ stays b r s) → told first book one U s ≡ told second book other V s →
       row_of U (clock_rule first book one U) s ≡ row_of V (clock_rule second book other V) s
   same-row known agree same = elim (cases_Bool (stays a 0 s)) [
@@ -97,7 +97,7 @@ module _ (sc : Scenario) (book : BookView) (a b : List OwnerLine) (one other : O
   ]
 
 module _ (order : Order) (valued : Inputs) (lines : List OwnerLine) (undecided : List ClockTest) where
-  -- a station goes by its own lines
+  -- a station goes by its owner's answers
   own-lines : (s : ℕ) → StationsAscend valued.scenario → Contains (facilities valued.scenario) s → GoesByOwnLines order (live_inputs valued lines) lines undecided s
   own-lines s ascend known =
       let sc = valued.scenario in
@@ -108,7 +108,7 @@ module _ (order : Order) (valued : Inputs) (lines : List OwnerLine) (undecided :
         same_row = λ other turned left agree same. same-row sc valued.book lines other order turned undecided left s known agree same;
       }
 
-  -- lines that follow the values
+  -- answers that follow the values
   by-value : valued.scenario.owners ≡ None → FollowValues valued.scenario lines → outcome order (live_inputs valued lines) undecided ≡ outcome order valued undecided
   by-value none follow =
       let sc = valued.scenario in

@@ -1,4 +1,4 @@
--- The scenario of inputs that three files with some bytes hold.
+-- For `make`: the scenario of the inputs that three files with given bytes hold.
 use Rattle.std.proofs.Common.{◌≡◌, ◌∙◌, ℕ, List, ap, subst}
 use Rattle.std.specs.Prelude.{IfOk, Ok, None}
 use Rattle.constraint_files.specs.Domains.{domains_of}
@@ -14,7 +14,7 @@ use Rattle.commands.specs.Inputs.{rows_read, scenario_read}
 use Rattle.commands.specs.Made.{inputs_in}
 use Rattle.commands.proofs.ReadingLemmas.{from-ok, read-ok, then-ok}
 
--- the scenario of inputs stands in the scenario file
+-- the scenario of the inputs is that of the scenario file
 scenario-in : (d r s : List ℕ) (inputs : Inputs) → inputs_in d r s ≡ Ok inputs → scenario_of s ≡ Ok inputs.scenario
 unfolding inputs_in
 scenario-in d r s inputs is =
@@ -23,7 +23,7 @@ scenario-in d r s inputs is =
     let (sc, read, joined-ok) = then-ok (scenario_read (scenario_of s)) _ inputs more in
     read-ok (scenario_of s) sc read ∙ ap Ok (from-ok sc pairs (joined sc domains pairs.list) inputs joined-ok)
 
--- so its stations ascend, and its values stand for the owners
+-- hence its stations ascend, and its values stand for the owners' answers
 pub ascend-in : (d r s : List ℕ) (inputs : Inputs) → inputs_in d r s ≡ Ok inputs → StationsAscend inputs.scenario
 ascend-in d r s inputs is =
     let limits : IsWithinLimits inputs.scenario = subst (λ o. IfOk o IsWithinLimits) (scenario-in d r s inputs is) (read-limits s) in

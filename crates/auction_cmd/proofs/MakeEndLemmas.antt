@@ -25,7 +25,7 @@ use Rattle.commands.proofs.SaysLemmas.{rises-before}
 
 -- ---- the stores
 
--- behind stores the folder is as steady as before, and the sink is what it was
+-- after stores the folder is as steady as before, and the sink is unchanged
 record IsBehind (before between : Outside) : Type 0 where
   pub steady : between.steady ≡ before.steady
   pub held : between.held ≡ before.held
@@ -53,7 +53,7 @@ stored-all : (xs : List NamedText) (before between : Outside) → AreAllStored x
 stored-all [] before between same = all-none before between (ap (λ (o : Outside). o.files) same)
 stored-all (x ∷ xs) before between d = all-more x xs before d.0 between d.1 (stored-all xs d.0 between d.2)
 
--- How stores end that were not all done: one failed, or memory ran out at it.
+-- how stores end if not all were done: one failed, or memory ran out
 data Stopped (xs : List NamedText) (before after : Outside) (status : ℕ) : Type 0 where
   Failing : (x : NamedText) → status ≡ 4 → LeavesPart xs x before after → HasRisen before.faults after.faults → before.steady ≢ true →
       IsSaid before after (unwritten_line x.name) → Stopped xs before after status
@@ -73,16 +73,16 @@ stopped-of (x ∷ xs) before after status (inr (NoRoom eight stores said)) = Sta
 
 -- ---- how far it came
 
--- of a told folder the texts were stored up to this one
+-- in a modelled folder the texts were stored up to this one
 abbrev pub MakesPart : MakeNames → NamedText → Outside → Outside → Type 0
 MakesPart names x before after = (files : List StoredFile) → before.files ≡ Some files → IsPart files (made_texts names) x after
 
--- of a told folder all of them were
+-- in a modelled folder all of them were stored
 abbrev pub MakesAll : MakeNames → Outside → Outside → Type 0
 MakesAll names before after = (files : List StoredFile) → before.files ≡ Some files → AreAllMade files names after
 
--- How far it came: nothing was stored; a store failed, or memory ran out at it; all was stored, and memory ran out; or the
--- auction was carried out, and its summary written or not.
+-- How far it came: nothing was stored; a store failed, or memory ran out at it; all was stored, and memory ran out; or the auction
+-- was carried out, and its summary written or not.
 pub data Reached (names : MakeNames) (before after : Outside) (status : ℕ) (found : Option Record) : Type 0 where
   Nothing : status ≡ 8 → found ≡ None → after.files ≡ before.files → IsSaid before after memory_line → Reached names before after status found
   OneFailed : (x : NamedText) → status ≡ 4 → found ≡ None → MakesPart names x before after → HasRisen before.faults after.faults → before.steady ≢ true →
@@ -108,7 +108,7 @@ module _ (names : MakeNames) (before after : Outside) (status : ℕ) (found : Op
   apart : repeated_made names ≡ None → AreApart (made_texts names)
   apart once = own-made names (made_domains names.size) (made_rows names.seed names.size) (made_scenario_text names.seed names.size) once
 
-  -- where all was stored before, and no file is touched behind
+  -- if all was stored before, and no file is touched afterwards
   all-made : (between : Outside) → AreAllStored (made_texts names) before between → after.files ≡ between.files → repeated_made names ≡ None → MakesAll names before after
   all-made between stored same once files told =
       subst (λ o. MatchOption o ⊥ (λ new. AreStored files new (made_texts names))) (sym same) (stored-all (made_texts names) before between stored files told (apart once))

@@ -1,4 +1,4 @@
--- What may be relied on of `make` follows from how far it came.
+-- The promises of `make` follow from how far it came.
 use Rattle.std.proofs.Common.{◌≡◌, ◌≢◌, ◌⊎◌, ◌≤◌, ◌∙◌, ℕ, true, inl, inr, List, [], ◌∷◌, length, refl, sym, subst, arith, Option, Some, None}
 use Rattle.std.specs.Prelude.{Ok, IsSome, IsTrue, MatchOption, ⊤}
 use Rattle.pack_defs.specs.Lists.{is_in}
@@ -25,7 +25,7 @@ use Rattle.auction_cmd.proofs.MakeEndLemmas.Reached.{Nothing, OneFailed, OneStar
 use Rattle.commands.proofs.RunLemmas.{absent, never, some-record}
 use Rattle.commands.proofs.Statuses.{done-within, none-open, off, one-of, within}
 
--- a record that is there is none that isn't
+-- a record cannot be both present and absent
 none-some : (found : Option Record) (rec : Record) → found ≡ Some rec → found ≡ None → ⊥
 none-some found rec is none = cc (sym is ∙ none)
 
@@ -33,7 +33,7 @@ some-none : (found : Option Record) → found ≡ None → IsSome found → ⊥
 some-none None none some = cc
 some-none (Some rec) none some = cc
 
--- what is left where nothing was touched
+-- what is left if nothing was touched
 all-stand : (files : List StoredFile) (names : MakeNames) (before after : Outside) → before.files ≡ Some files → after.files ≡ before.files → MatchOption after.files ⊥ (λ new. AllOthersStand files new (made_names names))
 all-stand files names before after told same =
     subst (λ o. MatchOption o ⊥ (λ new. AllOthersStand files new (made_names names))) (sym (same ∙ told)) (λ other k. refl)
@@ -154,7 +154,7 @@ module _ (names : MakeNames) (before after : Outside) (status : ℕ) (found : Op
   make-others files (Summed made all is writes) told = all-kept files names after (all files told)
   make-others files (Unsummed made all four rises less said) told = all-kept files names after (all files told)
 
-  -- ---- what is said of every command
+  -- ---- what holds of every command
 
   with-record : IsMadeRun names found → MatchOption found ⊤ IsSomeRecord
   with-record made = let of = made.auction in rw made.recorded (some-record run_order made.inputs made.rec of.backed (λ done. of.packing))
@@ -175,7 +175,7 @@ module _ (names : MakeNames) (before after : Outside) (status : ℕ) (found : Op
   make-memory (Summed made all is writes) eight = absurd (never (undecided_of made.rec.steps) status 8 is eight refl)
   make-memory (Unsummed made all four rises less said) eight = absurd (omega arith)
 
-  -- ---- the whole
+  -- ---- all promises
 
   pub make-promises : Reached names before after status found → MakePromises names before after status found
   make-promises way = record {

@@ -1,4 +1,4 @@
--- What the words ask for, from the command that they are.
+-- The plan of the words, from the command that they are.
 use Rattle.std.proofs.Common.{◌≡◌, ◌∙◌, ℕ, List, Option, Some, None, sym, ap}
 use Rattle.commands.specs.Plan.{no_command, repeats, runs, checks, verifies, resumes, seeks, batches, makes, exports, imports, command_plan, export_plan, import_plan, make_plan, resume_plan, run_plan, seek_plan}
 use Rattle.command_words.specs.Words.{Command, run, check, verify, resume, seek, batch, make, export, import, BatchNames, ExportNames, ImportNames, InputNames, MakeNames, ResumeNames, RunNames, SeekNames, VerifyNames, repeated_export, repeated_import, repeated_made, repeated_output, repeated_resume, repeated_seek}

@@ -1,4 +1,4 @@
--- What may be relied on of the program follows from how it ends, whatever the words ask for.
+-- The promises of the program follow from how it ends, whatever the plan.
 use Rattle.std.proofs.Common.{◌≡◌, ◌∙◌, ℕ, true, false, inl, inr, List, [], refl, sym, ap, subst, Option, None}
 use Rattle.std.specs.Prelude.{IsSome, IsTrue, is_some}
 use Rattle.std.proofs.lemmas.Bool.{false≢true, true≢false}
@@ -27,7 +27,7 @@ same-resumes : (a b : ResumeNames) → resumes a ≡ resumes b → a ≡ b
 same-resumes a b e = cc
 
 module _ (plan : Plan) (before after : Outside) (status : ℕ) (found below : Option Record) where
-  -- where no batch was carried out, memory ran out before the command was known
+  -- if no batch was carried out, memory ran out before the command was known
   starved-batch : (names : BatchNames) (batch : List Record) → Ends plan before after status found below → batch ≡ [] → plan ≡ batches names → BatchEnds names before after status batch
   starved-batch names batch (Starved s still alone) none is = BatchStarved (record { status_is = s.status_is; found_is = refl; line = s.line; files = s.files }) none
   starved-batch names batch (Usage text is_none two absent said files still alone) none is = cc
@@ -53,7 +53,7 @@ module _ (plan : Plan) (before after : Outside) (status : ℕ) (found below : Op
   no-found is (Exported own is_own single end alone) = absurd (false≢true (sym (ap is_batch is_own) ∙ is))
   no-found is (Imported own is_own valued single end alone) = absurd (false≢true (sym (ap is_batch is_own) ∙ is))
 
-  -- where no auction went on either, memory ran out before the command was known
+  -- if no auction continued either, memory ran out before the command was known
   starved-resume : (names : ResumeNames) → Ends plan before after status found below → plan ≡ resumes names → ResumeEnds names before after status found × (found ≡ None)
   starved-resume names (Starved s still alone) is = (ResumeStarved s, s.found_is)
   starved-resume names (Usage text is_none two absent said files still alone) is = cc
@@ -79,7 +79,7 @@ module _ (plan : Plan) (before after : Outside) (status : ℕ) (found below : Op
   alone-of is (Exported own is_own single end alone) = alone
   alone-of is (Imported own is_own valued single end alone) = alone
 
-  -- a plan is one thing
+  -- a plan is only one command
   resumes-other : {X : Type 0} (names : ResumeNames) (other : BatchNames) → plan ≡ resumes names → plan ≡ batches other → X
   resumes-other names other is_own is = cc
 

@@ -1,4 +1,4 @@
--- What may be relied on of the program follows from how it ends, by what the words ask for, but for a batch.
+-- The promises of the program, except those of `batch` and `resume`, follow from how it ends.
 use Rattle.std.proofs.Common.{◌≡◌, ◌⊎◌, ◌∙◌, ℕ, true, false, inl, inr, List, [], ◌∷◌, refl, sym, ap, subst, arith, Option, Some, None}
 use Rattle.std.specs.Prelude.{IsTrue, MatchOption, ⊤}
 use Rattle.std.proofs.lemmas.Bool.{false≢true, true≢false}
@@ -41,7 +41,7 @@ use Rattle.commands.proofs.Statuses.{apart-lists, not-in, off, one-of, within}
 use Rattle.auction_cmd.proofs.VerifyCases.{verify-backed, verify-memory, verify-none}
 use Rattle.auction_cmd.proofs.VerifyLemmas.{verify-promises}
 
--- each status that there is
+-- all statuses
 abbrev all : List ℕ
 all = 0 ∷ 1 ∷ 2 ∷ 3 ∷ 4 ∷ 5 ∷ 6 ∷ 7 ∷ 8 ∷ 9 ∷ 10 ∷ []
 
@@ -132,7 +132,7 @@ module _ (plan : Plan) (before after : Outside) (status : ℕ) (found below : Op
   sought names (Exported own is_own single end alone) is = cc
   sought names (Imported own is_own valued single end alone) is = cc
 
-  -- what may be relied on of `verify`
+  -- the promises of `verify`
   of-verify : (names : VerifyNames) → VerifyEnds names before after status found → VerifyPromises names before after status found
   of-verify names end = verify-promises names before after status found end
 
@@ -185,7 +185,7 @@ module _ (plan : Plan) (before after : Outside) (status : ℕ) (found below : Op
   import-once names (Exported own is_own single end alone) is = cc
   import-once names (Imported own is_own valued single end alone) is = inr (subst (λ z. repeated_import z ≡ None) (same-imports own names (sym is_own ∙ is)) single)
 
-  -- no step of a live auction is settled
+  -- no step of a live auction is decided by `import`
   import-valued : (names : ImportNames) → Ends plan before after status found below → plan ≡ imports names → status ≡ 0 → names.shown.inputs.owners ≡ None
   import-valued names (Starved s still alone) is zero = let eight = s.status_is in absurd (omega arith)
   import-valued names (Usage text is_none two none said files still alone) is zero = cc
@@ -198,7 +198,7 @@ module _ (plan : Plan) (before after : Outside) (status : ℕ) (found below : Op
   import-valued names (Exported own is_own single end alone) is zero = cc
   import-valued names (Imported own is_own valued single end alone) is zero = subst (λ (z : ImportNames). z.shown.inputs.owners ≡ None) (same-imports own names (sym is_own ∙ is)) valued
 
-  -- what may be relied on of `import`
+  -- the promises of `import`
   imported : (names : ImportNames) → Ends plan before after status found below → plan ≡ imports names → ImportPromises names before after status found
   imported names end is = import-promises names before after status found (import-ended names end is) (import-once names end is) (import-valued names end is)
 
@@ -217,7 +217,7 @@ module _ (plan : Plan) (before after : Outside) (status : ℕ) (found below : Op
         | inr unsaid ↦ inr unsaid.failed
       ]
 
-  -- ---- each way to end
+  -- ---- each way in which the program ends
 
   all-statuses : Ends plan before after status found below → IsTrue (is_in all status)
   all-statuses (Starved s still alone) = one-of all status 8 s.status_is refl
@@ -231,7 +231,7 @@ module _ (plan : Plan) (before after : Outside) (status : ℕ) (found below : Op
   all-statuses (Exported names is single end alone) = within (0 ∷ 3 ∷ 4 ∷ 5 ∷ 8 ∷ 9 ∷ 10 ∷ []) all status refl (export-statuses names before after status found end)
   all-statuses (Imported names is valued single end alone) = within (0 ∷ 1 ∷ 3 ∷ 4 ∷ 5 ∷ 8 ∷ 9 ∷ 10 ∷ []) all status refl (import-statuses names before after status found end)
 
-  -- words that are no command
+  -- words that are not a command
   no-plan : Ends plan before after status found below → plan ≡ no_command → (status ≡ 2) ⊎ (status ≡ 8)
   no-plan (Starved s still alone) none = inr s.status_is
   no-plan (Usage text is two absent said files still alone) none = inl two
@@ -378,7 +378,7 @@ module _ (plan : Plan) (before after : Outside) (status : ℕ) (found below : Op
   all-memory (Exported names is single end alone) eight = export-memory names before after status found end eight
   all-memory (Imported names is valued single end alone) eight = import-memory names before after status found end eight
 
-  -- where no command is carried out
+  -- if no command is carried out
   no-folder : Ends plan before after status found below → asks_nothing plan ≡ true → after.faults ≡ before.faults
   no-folder (Starved s still alone) none = still
   no-folder (Usage text is two absent said files still alone) none = still
@@ -443,7 +443,7 @@ unsaid-by (makes own) names before after status found below files end told is no
 unsaid-by (exports own) names before after status found below files end told is none = cc
 unsaid-by (imports own) names before after status found below files end told is none = cc
 
--- what may be relied on of `check`
+-- the promises of `check`
 told-check : (files : List StoredFile) (names : InputNames) (before after : Outside) (status : ℕ) (found : Option Record) → CheckEnds names before after status found → before.files ≡ Some files → ToldCheck files names before after status
 told-check files names before after status found end told = record {
   counted = λ zero. check-counted names before after status found files end told zero;
@@ -459,7 +459,7 @@ check-promises names before after status found end = record {
   never = not-in (0 ∷ 3 ∷ 4 ∷ 5 ∷ 8 ∷ []) (1 ∷ 6 ∷ 7 ∷ 9 ∷ 10 ∷ []) status refl (check-statuses names before after status found end);
 }
 
--- what may be relied on
+-- the promises
 pub promises-of : (plan : Plan) (before after : Outside) (status : ℕ) (found below : Option Record) → Ends plan before after status found below → Promises plan before after status found below
 promises-of plan before after status found below end = record {
   statuses = all-statuses plan before after status found below end;

@@ -1,4 +1,5 @@
--- The beginnings and the whole of a sound transcript: what is kept of them, and the record that goes on from the whole.
+-- For `resume`: what is kept of the beginnings of a sound transcript and of the complete one, and the record that continues the
+-- latter.
 use Rattle.std.proofs.Common.{◌≡◌, ◌<◌, ◌∙◌, ◌++◌, ◌^◌, ℕ, true, List, [], length, refl, sym, ap, subst, arith, append-nil, Option, Some, None}
 use Rattle.std.specs.Prelude.{Ok, Err, MatchResult, Result}
 use Rattle.outside_io.specs.Files.{StoredFile}
@@ -60,19 +61,19 @@ verified-fits files names inputs text rec is can e =
 
 -- ---- what is kept
 
--- what was read and has no fault is gone on from
+-- what was read and has no fault is continued
 unfaulty : (inputs : Inputs) (r : Result Prefix TextErr) → MatchResult r (λ kept. not_kept inputs.scenario inputs.book kept ≡ None) (λ why. ⊥) → (kept : Prefix) × (begun_by inputs r ≡ Ok kept)
 unfaulty inputs (Ok kept) none = (kept, ap (λ o. kept_or o kept) none)
 unfaulty inputs (Err why) none = absurd none
 
--- what any sound transcript begins with
+-- the beginning of any sound transcript
 pub cut-begun : (inputs : Inputs) (text behind : List ℕ) (rec : Record) → verified inputs (text ++ behind) ≡ Ok rec → (kept : Prefix) × (begun inputs text ≡ Ok kept)
 unfolding begun
 cut-begun inputs text behind rec e =
     let of = of-text inputs (text ++ behind) rec e in
     unfaulty inputs (prefix_of inputs.scenario inputs.book text) (any-beginning inputs.scenario inputs.book text behind of.transcript of.read of.shown)
 
--- what is kept of what was read is that
+-- what is kept is what was read
 kept-same : (o : Option NotShown) (own kept : Prefix) → kept_or o own ≡ Ok kept → own ≡ kept
 kept-same None own kept e = cc
 kept-same (Some first) own kept e = cc
@@ -80,14 +81,14 @@ kept-same (Some first) own kept e = cc
 no-start : {X : Type 0} (shown : Shown) → Some shown ≡ None → X
 no-start shown e = cc
 
--- of the whole of a transcript all is kept
+-- all of a complete transcript is kept
 whole-kept : (inputs : Inputs) (text : List ℕ) (t : Transcript) (kept : Prefix) → transcript_of inputs.scenario inputs.book text ≡ Ok t → begun inputs text ≡ Ok kept → transcript_there t true ≡ kept
 unfolding begun
 whole-kept inputs text t kept read e =
     let all : begun_by inputs (Ok (transcript_there t true)) ≡ Ok kept = subst (λ r. begun_by inputs r ≡ Ok kept) (prefix-all inputs.scenario inputs.book text t read) e in
     kept-same (not_kept inputs.scenario inputs.book (transcript_there t true)) (transcript_there t true) kept all
 
--- so it is gone on from, and its start is kept
+-- hence the auction continues from it, and its start is kept
 pub whole-begun : (inputs : Inputs) (text : List ℕ) (rec : Record) → verified inputs text ≡ Ok rec → (kept : Prefix) × (begun inputs text ≡ Ok kept)
 whole-begun inputs text rec e = cut-begun inputs text [] rec (subst (λ t. verified inputs t ≡ Ok rec) (sym (append-nil text)) e)
 
@@ -97,7 +98,7 @@ whole-started inputs text rec kept e ok none =
     let same : transcript_there of.transcript true ≡ kept = whole-kept inputs text of.transcript kept of.read ok in
     no-start of.transcript.start (ap (λ (p : Prefix). p.start) same ∙ none)
 
--- a record that goes on from the whole of a transcript is the one that it shows
+-- a record that continues a complete transcript is the one that the transcript certifies
 whole-record : (inputs : Inputs) (t : Transcript) (new : Record) → IsAuction inputs.scenario inputs.book → not_shown inputs.scenario inputs.book t ≡ None → GoesOnFrom (transcript_there t true) new → IsRecordIn t.order inputs new → new ≡ transcript_record inputs.scenario inputs.book t
 whole-record inputs t new auction none goes of = none-other inputs.scenario inputs.book t new goes.more auction none of.backed of.ending goes.start goes.steps
 

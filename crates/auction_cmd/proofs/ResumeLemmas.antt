@@ -1,4 +1,4 @@
--- What may be relied on of `resume` follows from how it ends, case by case: where its auction goes on, by what holds of a run.
+-- The promises of `resume` follow from how it ends, case by case. If its auction continues, they follow from those of a run.
 use Rattle.std.proofs.Common.{◌≡◌, ◌≢◌, ◌⊎◌, ◌<◌, ◌∙◌, ◌++◌, ℕ, true, false, inl, inr, List, [], ◌∷◌, length, refl, sym, ap, subst, arith, Option, Some, None}
 use Rattle.std.specs.Prelude.{Ok, Err, IsSome, IsTrue, MatchOption, Result, is_some, ⊤}
 use Rattle.std.proofs.lemmas.Bool.{true≢false}
@@ -53,26 +53,26 @@ use Rattle.auction_cmd.proofs.VerifyReadings.{all-halted as text-halted, all-mis
 
 -- ---- two readings of one beginning
 
--- two things that are given are one
+-- two readings of the given files are equal
 same-begun : (files : List StoredFile) (names : ResumeNames) (own inputs : Inputs) (t text : List ℕ) → IsGiven files (begun_names names) own t → IsGiven files (begun_names names) inputs text → begun own t ≡ begun inputs text
 same-begun files names own inputs t text a b =
     let one : own ≡ inputs = same-inputs own inputs (sym a.accepted ∙ b.accepted) in
     let other : t ≡ text = same-text t text (sym a.told ∙ b.told) in
     ap (λ (i : Inputs). begun i t) one ∙ ap (λ z. begun inputs z) other
 
--- what is gone on from isn't at fault
+-- a beginning that is continued has no fault
 not-both-begun : {X : Type 0} (kept : Prefix) (fault : TranscriptFault) (r : Result Prefix TranscriptFault) → r ≡ Ok kept → r ≡ Err fault → X
 not-both-begun kept fault r ok err = cc (sym ok ∙ err)
 
 some-same : (a b : Record) → Some a ≡ Some b → a ≡ b
 some-same a b e = cc
 
--- what stands under the name of the transcript
+-- what is stored under the name of the transcript
 last-held : (order : Order) (old new : List StoredFile) (names : RunNames) (inputs : Inputs) (rec : Record) → AreStored old new (auction_texts order names inputs rec) → bytes_of new names.transcript ≡ Some (transcript_text inputs.scenario inputs.book rec)
 last-held order old new names inputs rec st = st.hold 2 (named [] []) (omega arith)
 
 module _ (names : ResumeNames) (before after : Outside) (status : ℕ) (found : Option Record) where
-  -- ---- an auction that went on
+  -- ---- an auction that continued
 
   -- what was read, and how the auction concluded
   record IsWent : Type 0 where
@@ -87,7 +87,7 @@ module _ (names : ResumeNames) (before after : Outside) (status : ℕ) (found : 
     pub goes : GoesOnFrom kept rec
     pub concludes : Concludes (order_kept kept) names.run_files inputs rec before after status found
 
-  -- it ended as a run does
+  -- `resume` ended as a run does
   as-run : (w : IsWent) → RunEnds (order_kept w.kept) names.run_files before after status found
   as-run w = Concluded w.inputs w.rec w.held w.concludes
 
@@ -118,7 +118,7 @@ module _ (names : ResumeNames) (before after : Outside) (status : ℕ) (found : 
 
   -- ---- how far it came
 
-  -- it stopped before; the beginning is at fault; or the auction went on
+  -- `resume` stopped before; the beginning has a fault; or the auction continued
   data Way : Type 0 where
     Short : IsTrue (is_in (3 ∷ 5 ∷ 8 ∷ []) status) → found ≡ None → after.files ≡ before.files → Way
     Denied : status ≡ 9 → found ≡ None → after.files ≡ before.files → Way
@@ -135,7 +135,7 @@ module _ (names : ResumeNames) (before after : Outside) (status : ℕ) (found : 
   no-record : {X : Type 0} → found ≡ None → IsSome found → X
   no-record none some = absurd (true≢false (sym some ∙ ap is_some none))
 
-  -- where there is a record the auction went on, and so it did at these statuses
+  -- with a record the auction continued, and also at these statuses
   by-record : ResumeEnds names before after status found → IsSome found → IsWent
   by-record end some = go (way end)
     where
@@ -196,7 +196,7 @@ module _ (names : ResumeNames) (before after : Outside) (status : ℕ) (found : 
   went-unstarted : (w : IsWent) → IsTrue (is_in (6 ∷ 7 ∷ []) status) → w.kept.start ≡ None
   went-unstarted w h = unstarted (order_kept w.kept) w.inputs w.text w.kept w.rec w.sound w.goes w.concludes h
 
-  -- so it was resumed
+  -- hence the auction was resumed
   as-resumed : IsOnce names.run_files found → names.run_files.inputs.owners ≡ None → IsWent → IsResumed names before after status found
   as-resumed once valued w = record {
     inputs = w.inputs;
@@ -216,7 +216,7 @@ module _ (names : ResumeNames) (before after : Outside) (status : ℕ) (found : 
 
   -- ---- a beginning that is given
 
-  -- it stopped for want of memory or by a fault of the outside; the beginning is at fault; or the auction went on
+  -- `resume` stopped because memory ran out or by a fault of the outside; the beginning has a fault; or the auction continued
   data GivenWay (inputs : Inputs) (text : List ℕ) : Type 0 where
     Failed : ((n : ℕ) → IsOr n before status) → GivenWay inputs text
     AtFault : (fault : TranscriptFault) → begun inputs text ≡ Err fault → status ≡ 9 → GivenWay inputs text
@@ -234,7 +234,7 @@ module _ (names : ResumeNames) (before after : Outside) (status : ℕ) (found : 
   given-way files inputs text (WentOn own t kept rec are can held is goes c) told g =
       GoneOn (record { inputs = own; text = t; kept = kept; rec = rec; held = are; named = can; told = held; sound = is; goes = goes; concludes = c })
 
-  -- what went on is what is given
+  -- what was continued is what is given
   went-same : (files : List StoredFile) (inputs : Inputs) (text : List ℕ) (w : IsWent) → before.files ≡ Some files → IsGiven files (begun_names names) inputs text → begun w.inputs w.text ≡ begun inputs text
   went-same files inputs text w told g = same-begun files names w.inputs inputs w.text text (went-given files w told) g
 
@@ -265,7 +265,7 @@ module _ (names : ResumeNames) (before after : Outside) (status : ℕ) (found : 
       go (AtFault fault err nine) = not-both-begun kept fault (begun inputs text) ok err
       go (GoneOn w) = run-complete (order_kept w.kept) names.run_files before after status found files inputs (as-run w) told g.accepted fit
 
-  -- what any sound transcript begins with
+  -- the beginning of any sound transcript
   all-any_cut : (files : List StoredFile) (inputs : Inputs) (text behind : List ℕ) (rec : Record) → ResumeEnds names before after status found → before.files ≡ Some files → IsGiven files (begun_names names) inputs text → verified inputs (text ++ behind) ≡ Ok rec →
       IsOr 0 before status ⊎ IsTrue (is_in (1 ∷ 4 ∷ 7 ∷ []) status)
   all-any_cut files inputs text behind rec end told g e = go (given-way files inputs text end told g)
@@ -281,7 +281,7 @@ module _ (names : ResumeNames) (before after : Outside) (status : ℕ) (found : 
           let fit : StartFits inputs = verified-fits files names.run_files.inputs inputs (text ++ behind) rec g.accepted (subst CanBeNamed one w.named) e in
           run-complete (order_kept w.kept) names.run_files before after status found files inputs (as-run w) told g.accepted fit
 
-  -- a whole sound transcript ends as it is verified
+  -- a complete sound transcript ends as it verifies
   all-whole_done : (files : List StoredFile) (inputs : Inputs) (text : List ℕ) (rec : Record) → ResumeEnds names before after status found → before.files ≡ Some files → IsGiven files (begun_names names) inputs text → verified inputs text ≡ Ok rec →
       IsOr (done_status (undecided_of rec.steps)) before status ⊎ (status ≡ 4)
   all-whole_done files inputs text rec end told g e = go (given-way files inputs text end told g)
@@ -320,7 +320,7 @@ module _ (names : ResumeNames) (before after : Outside) (status : ℕ) (found : 
           not-both-begun kept.0 fault (begun inputs text) kept.1 err
       go (GoneOn w) = by w w.concludes
 
-  -- and its record and its text are those again
+  -- and its record and its text are the same again
   all-whole : (files : List StoredFile) (inputs : Inputs) (text : List ℕ) (rec : Record) → ResumeEnds names before after status found → IsOnce names.run_files found → before.files ≡ Some files → IsGiven files (begun_names names) inputs text → verified inputs text ≡ Ok rec →
       IsTrue (is_in (0 ∷ 1 ∷ []) status) → (found ≡ Some rec) × MatchOption after.files ⊥ (λ new. bytes_of new names.run_files.transcript ≡ Some text)
   all-whole files inputs text rec end once told g e h =
@@ -417,7 +417,7 @@ module _ (names : ResumeNames) (before after : Outside) (status : ℕ) (found : 
   all-missing_prefix files inputs (NotBegun own t fault are can held is nine none said same) told steady ok gone = absurd (no-text t (bytes_of files names.prefix) gone (held files told).0)
   all-missing_prefix files inputs (WentOn own t kept rec are can held is goes c) told steady ok gone = absurd (no-text t (bytes_of files names.prefix) gone (held files told).0)
 
-  -- ---- what was not written, and what stands
+  -- ---- what was not written, and what is unchanged
 
   all-unwritten : ResumeEnds names before after status found → status ≡ 4 → HasRisen before.faults after.faults ⊎ HasRisen before.cuts after.cuts
   all-unwritten end four = let w = at-one 4 end four refl in run-unwritten (order_kept w.kept) names.run_files before after status found (as-run w) four

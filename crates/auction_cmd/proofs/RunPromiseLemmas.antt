@@ -1,4 +1,4 @@
--- What may be relied on of a run, whatever its order, follows from how it ends.
+-- The promises of a run, in any order, follow from how it ends.
 use Rattle.std.proofs.Common.{◌≡◌, ℕ, List, Option, Some}
 use Rattle.pack_defs.specs.declared.order.Order.{Order}
 use Rattle.outside_io.specs.Files.{StoredFile}

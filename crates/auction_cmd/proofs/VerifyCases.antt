@@ -1,4 +1,4 @@
--- The record, and the line for want of memory, where `verify` ends.
+-- The record, and the line when memory runs out, where `verify` ends.
 use Rattle.std.proofs.Common.{◌≡◌, ℕ, [], ◌∷◌, refl, arith, Option, None}
 use Rattle.std.specs.Prelude.{IsTrue, MatchOption, ⊤}
 use Rattle.pack_defs.specs.Lists.{is_in}

@@ -1,4 +1,4 @@
--- How `verify` ends: what each end gives, and which it excludes.
+-- How `verify` ends: what each end implies, and what it excludes.
 use Rattle.std.proofs.Common.{◌≡◌, ◌<◌, ◌≤◌, ◌∙◌, ℕ, List, [], ◌∷◌, length, refl, sym, ap, subst, arith, Option, Some, None}
 use Rattle.std.specs.Prelude.{Ok, Err, Result, IsTrue}
 use Rattle.pack_defs.specs.ClockRule.{ClockTest}
@@ -31,7 +31,7 @@ pub printed-files : (text : List ℕ) (done : ℕ) (before after : Outside) (sta
 printed-files text done before after status (Written is same writes) = same
 printed-files text done before after status (CutShort four same rises less said) = same
 
--- what was printed whole isn't at 4
+-- a result that was printed completely does not end at status 4
 pub never-four : (U : List ClockTest) (status : ℕ) → status ≡ done_status U → status ≡ 4 → ⊥
 never-four U status is four = off (0 ∷ 1 ∷ []) status 4 (subst (λ z. IsTrue (is_in (0 ∷ 1 ∷ []) z)) (sym is) (done-within U)) four refl
 
@@ -53,20 +53,20 @@ no-text text held none is = cc (sym none ∙ is)
 pub over : (limit n : ℕ) → limit < n → n ≤ limit → ⊥
 over limit n more most = omega arith
 
--- the given text isn't too long
+-- the given text is not too long
 pub not-long : (files : List StoredFile) (names : VerifyNames) (inputs : Inputs) (text bytes : List ℕ) → IsGiven files names inputs text → bytes_of files names.transcript ≡ Some bytes → transcript_limit < length bytes → ⊥
 not-long files names inputs text bytes g is more =
     let same : bytes ≡ text = same-text bytes text (sym is ∙ g.told) in
     over transcript_limit (length text) (subst (λ z. transcript_limit < length z) same more) g.within
 
--- two things that are given are one
+-- two readings of the given files are equal
 pub same-verified : (files : List StoredFile) (names : VerifyNames) (own inputs : Inputs) (t text : List ℕ) → IsGiven files names own t → IsGiven files names inputs text → verified own t ≡ verified inputs text
 same-verified files names own inputs t text a b =
     let one : own ≡ inputs = same-inputs own inputs (sym a.accepted ∙ b.accepted) in
     let other : t ≡ text = same-text t text (sym a.told ∙ b.told) in
     ap (λ (i : Inputs). verified i t) one ∙ ap (λ z. verified inputs z) other
 
--- what is verified isn't at fault
+-- what verifies has no fault
 pub not-both-verified : (rec : Record) (fault : TranscriptFault) (r : Result Record TranscriptFault) → r ≡ Ok rec → r ≡ Err fault → ⊥
 not-both-verified rec fault r ok err = cc (sym ok ∙ err)
 

@@ -1,4 +1,4 @@
--- What may be relied on of `verify` follows from how it ends, case by case.
+-- The promises of `verify` follow from how it ends, case by case.
 use Rattle.std.proofs.Common.{◌≡◌, ◌≢◌, ◌⊎◌, ◌<◌, ◌≤◌, ◌∙◌, ℕ, inl, inr, List, [], ◌∷◌, length, refl, sym, subst, arith, Option, Some, None}
 use Rattle.std.specs.Prelude.{Contains, Ok, Err, IsTrue}
 use Rattle.pack_defs.specs.ClockRule.{FrozenAt}
@@ -31,7 +31,7 @@ use Rattle.auction_cmd.proofs.VerifyReadings.{all-halted, all-missing, all-missi
 use Rattle.auction_cmd.proofs.VerifyEndLemmas.{is-given, never-four, no-text, not-both-verified, not-long, printed-files, printed-statuses, same-record, same-verified, unloaded-statuses}
 
 module _ (names : VerifyNames) (before after : Outside) (status : ℕ) (found : Option Record) where
-  -- ---- which status, and what stands
+  -- ---- the statuses, and what is unchanged
 
   all-statuses : VerifyEnds names before after status found → IsTrue (is_in (0 ∷ 1 ∷ 3 ∷ 4 ∷ 5 ∷ 8 ∷ 9 ∷ []) status)
   all-statuses (VerifyStopped s none) = within (3 ∷ 5 ∷ 8 ∷ []) (0 ∷ 1 ∷ 3 ∷ 4 ∷ 5 ∷ 8 ∷ 9 ∷ []) status refl (stopped-statuses names.inputs before after status s)
@@ -58,7 +58,7 @@ module _ (names : VerifyNames) (before after : Outside) (status : ℕ) (found : 
 
   -- ---- a sound transcript
 
-  -- what is verified of a told folder
+  -- what verifies in a modelled folder
   abbrev as-verified : (files : List StoredFile) (inputs : Inputs) (text : List ℕ) (rec : Record) → IsGiven files names inputs text → found ≡ Some rec → verified inputs text ≡ Ok rec → IsRecordIn rec.order inputs rec → IsVerified files names found
   as-verified files inputs text rec given kept is of = record { inputs = inputs; text = text; given = given; rec = rec; recorded = kept; shown = is; auction = of }
 
@@ -93,7 +93,7 @@ module _ (names : VerifyNames) (before after : Outside) (status : ℕ) (found : 
   all-printed (Sound inputs text rec are can held is of kept (Written done same writes)) h = (inputs, rec, are, kept, of, done, writes)
   all-printed (Sound inputs text rec are can held is of kept (CutShort four same rises less said)) h = absurd (off (0 ∷ 1 ∷ []) status 4 h four refl)
 
-  -- the record where there is one
+  -- the record, if there is one
   all-recorded : VerifyEnds names before after status found → IsTrue (is_in (0 ∷ 1 ∷ 4 ∷ []) status) →
       (inputs : Inputs) × (rec : Record) × AreInputsOf names.inputs before inputs × (found ≡ Some rec) × IsRecordIn rec.order inputs rec
   all-recorded (VerifyStopped s none) h = absurd (apart-lists (0 ∷ 1 ∷ 4 ∷ []) (3 ∷ 5 ∷ 8 ∷ []) status refl h (stopped-statuses names.inputs before after status s))
@@ -102,13 +102,13 @@ module _ (names : VerifyNames) (before after : Outside) (status : ℕ) (found : 
   all-recorded (NotSound inputs text fault are can held is nine none said same) h = absurd (off (0 ∷ 1 ∷ 4 ∷ []) status 9 h nine refl)
   all-recorded (Sound inputs text rec are can held is of kept p) h = (inputs, rec, are, kept, of)
 
-  -- where every test was decided, what is paid is the threshold price
+  -- if every test is decided, the price is the threshold price
   all-paid : (files : List StoredFile) (inputs : Inputs) (rec : Record) (f : FrozenAt) → names.inputs.owners ≡ None → inputs_of files names.inputs ≡ Ok inputs →
       Contains (outcome rec.order inputs []).frozen f → IsThresholdPrice inputs.scenario inputs.book rec.order f.station f.price
   all-paid files inputs rec f valued is bought =
       threshold inputs.scenario inputs.book rec.order f (accepted-ascend files names.inputs inputs is) (accepted-values files names.inputs inputs valued is) bought
 
-  -- ---- a transcript that is refused
+  -- ---- a transcript that is rejected
 
   all-refused : (files : List StoredFile) → VerifyEnds names before after status found → before.files ≡ Some files → status ≡ 9 →
       (inputs : Inputs) × (text : List ℕ) × IsGiven files names inputs text × (fault : TranscriptFault) × (verified inputs text ≡ Err fault) × IsSaid before after (fault_line names.transcript fault)
@@ -130,7 +130,7 @@ module _ (names : VerifyNames) (before after : Outside) (status : ℕ) (found : 
   all-refuses files inputs text fault (Sound own t rec are can held is of kept p) told g err =
       absurd (not-both-verified rec fault (verified own t) is (same-verified files names own inputs t text (is-given files names before own t told are held) g ∙ err))
 
-  -- a transcript that is sound where its numbers can be named
+  -- a transcript is sound if its numbers can be named
   complete-by : (files : List StoredFile) (inputs : Inputs) (text : List ℕ) (rec : Record) → VerifyEnds names before after status found → before.files ≡ Some files → IsGiven files names inputs text → (CanBeNamed inputs → verified inputs text ≡ Ok rec) →
       IsOr (done_status (undecided_of rec.steps)) before status ⊎ (status ≡ 4)
   complete-by files inputs text rec (VerifyStopped s none) told g ok = inl (halted-held names.inputs before after status (done_status (undecided_of rec.steps)) files inputs s told g.accepted)
@@ -169,7 +169,7 @@ module _ (names : VerifyNames) (before after : Outside) (status : ℕ) (found : 
       let enough = room inputs text rec (is-given files names before inputs text told are held) is in
       absurd (omega arith)
 
--- what may be relied on of `verify`
+-- the promises of `verify`
 pub verify-promises : (names : VerifyNames) (before after : Outside) (status : ℕ) (found : Option Record) → VerifyEnds names before after status found → VerifyPromises names before after status found
 verify-promises names before after status found end = record {
   statuses = all-statuses names before after status found end;

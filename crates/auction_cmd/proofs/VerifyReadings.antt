@@ -1,4 +1,4 @@
--- What may be relied on of `verify` where an input or the transcript was not read.
+-- The promises of `verify` if an input or the transcript was not read.
 use Rattle.std.proofs.Common.{◌≡◌, ◌≢◌, ◌⊎◌, ◌<◌, ◌∙◌, ℕ, true, inl, inr, List, [], ◌∷◌, length, refl, sym, arith, Option, Some, None}
 use Rattle.std.specs.Prelude.{Ok, Err, IsSome}
 use Rattle.outside_io.specs.Faults.{HasRisen}
@@ -103,7 +103,7 @@ module _ (names : VerifyNames) (before after : Outside) (status : ℕ) (found : 
   all-missing files input (NotSound inputs text fault are can held is nine none said same) told steady err = absurd (not-both inputs (CannotRead input) (sym (are files told) ∙ err))
   all-missing files input (Sound inputs text rec are can held is of kept p) told steady err = absurd (not-both inputs (CannotRead input) (sym (are files told) ∙ err))
 
-  -- of a steady folder whose files hold inputs the reading stops for want of memory alone
+  -- in a steady folder whose files hold inputs, only memory can stop the reading
   starved : (files : List StoredFile) (inputs : Inputs) → IsOr 8 before status → before.steady ≡ true → status ≡ 8
   starved files inputs (inl eight) steady = eight
   starved files inputs (inr (inl eight)) steady = eight

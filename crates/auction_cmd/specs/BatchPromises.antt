@@ -27,15 +27,15 @@ use Rattle.commands.specs.Statuses.{DONE, LEFT_OPEN, UNREAD, UNWRITTEN, REFUSED,
 use Rattle.commands.specs.VerifyPromises.{IsOr}
 use Rattle.command_words.specs.Words.{BatchNames, InputNames}
 
--- All auctions of the batch ended. There is a record for each line of the list, in order: it is backed and of the auction of the
--- line's scenario. Where the folder's files are modelled, they hold the batch.
+-- Whether all auctions of the batch ended. There is a record for each line of the list, in order: it is backed, and of the auction of
+-- the line's scenario. In a modelled folder, the files hold the batch.
 pub record IsBatchRun (names : BatchNames) (before : Outside) (batch : List Record) : Type 0 where
   pub held : HeldBatch
   pub accepted : IsBatchHeld names before held
   pub auctions : AreRecordsOf held batch
 
--- What a line of the list gets: a record of the auction of its inputs, which `run` would read. If the auction was completed, its
--- result is stored.
+-- What a line of the list gets: a record of the auction of its inputs, which `run` would read, and, if the auction was completed,
+-- the stored result.
 pub record IsRunOf (files new : List StoredFile) (names : BatchNames) (line : ListedNames) (inputs : Inputs) (rec : Record) : Type 0 where
   pub accepted : inputs_of files (inputs_with names line.scenario) ≡ Ok inputs
   pub auction : IsRecordBy inputs rec rec.ending
@@ -48,36 +48,36 @@ pub record IsRunOf (files new : List StoredFile) (names : BatchNames) (line : Li
   pub paid : own_status rec ≡ DONE → (f : FrozenAt) → Contains (outcome run_order inputs []).frozen f →
       IsThresholdPrice inputs.scenario inputs.book run_order f.station f.price
 
--- The line that says what is rejected, or an empty text where nothing is.
+-- The line that says what is rejected, or an empty text if nothing is.
 abbrev pub refused_line : BatchStop → List ℕ
 refused_line (Unread names (CannotRead input)) = []
 refused_line (Unread names (Refused why)) = refusal_line names why
 refused_line (Unread names NoMemory) = []
 refused_line (Twice name) = twice_line name
 
--- A file is too long or rejected, or a result name is repeated.
+-- Whether a file is too long or rejected, or a result name is repeated.
 abbrev pub IsRefusing : BatchStop → Type 0
 IsRefusing (Unread names (CannotRead input)) = ⊥
 IsRefusing (Unread names (Refused why)) = ⊤
 IsRefusing (Unread names NoMemory) = ⊥
 IsRefusing (Twice name) = ⊤
 
--- All auctions of the batch ended, and their results are stored only up to one name. The results before it are stored, that name
--- may hold anything or be gone, and all other files are unchanged.
+-- Whether all auctions of the batch ended, and their results are stored only up to one name. The results before it are stored, the
+-- file of this name may hold anything or be gone, and all other files are unchanged.
 pub record IsBatchPart (files : List StoredFile) (names : BatchNames) (before after : Outside) (batch : List Record) : Type 0 where
   pub run : IsBatchRun names before batch
   pub new : List StoredFile
   pub now_told : after.files ≡ Some new
   pub part : AreStoredUpTo files new (batch_texts run.held batch)
 
--- A store failed in a folder that isn't steady, and its fault count rose. The line names the file.
+-- Whether a store failed in a folder that is not steady, and the folder's fault count rose. The line names the file.
 pub record IsBatchUnstored (files : List StoredFile) (names : BatchNames) (before after : Outside) (batch : List Record) : Type 0 where
   pub risen : HasRisen before.faults after.faults
   pub unsteady : before.steady ≢ true
   pub upto : IsBatchPart files names before after batch
   pub line : IsSaid before after (unwritten_line upto.part.failed.name)
 
--- The results are stored, but the sink failed at the status lines, for which it did not guarantee room. The sink grew by the
+-- Whether the results are stored, but the sink failed at the status lines, for which it did not guarantee room. The sink grew by the
 -- lines or by some of them, from the first byte on.
 pub record IsBatchCut (files : List StoredFile) (names : BatchNames) (before after : Outside) (batch : List Record) : Type 0 where
   pub run : IsBatchRun names before batch
@@ -91,30 +91,30 @@ pub record BatchPromises (names : BatchNames) (before after : Outside) (status :
   -- The status is 0, 1, 3, 4, 5, 8 or 11.
   pub statuses : IsTrue (is_in (DONE ∷ LEFT_OPEN ∷ UNREAD ∷ UNWRITTEN ∷ REFUSED ∷ NO_MEMORY ∷ SOME_UNSTARTED ∷ []) status)
   -- At status 0, 1 and 11 all auctions ended, the status is that of the records, and the sink grew by a line for each. This also
-  -- holds where the folder's files are not modelled. Over modelled files each line got what `IsRunOf` says. No file changes
-  -- except the results of completed auctions.
+  -- holds in a folder that is not modelled. In a modelled folder, each line got what `IsRunOf` says, and no file changes except the
+  -- results of completed auctions.
   pub done : IsTrue (is_in (DONE ∷ LEFT_OPEN ∷ SOME_UNSTARTED ∷ []) status) →
       (run : IsBatchRun names before batch) × (status ≡ batch_status batch)
       × Writes before.held after.held (status_lines run.held.lines batch) (Ok tt)
   pub each : (files : List StoredFile) → before.files ≡ Some files → IsTrue (is_in (DONE ∷ LEFT_OPEN ∷ SOME_UNSTARTED ∷ []) status) →
       (run : IsBatchRun names before batch)
       × MatchOption after.files ⊥ (λ new. AreStored files new (batch_texts run.held batch) × EachOf (IsRunOf files new names) run.held.lines run.held.inputs batch)
-  -- At 4 there are records, and at 3 and 5 there are none. At 8 there are none and no file changed, or all auctions ended. Over
-  -- modelled files, if there are records at 8, the results are stored up to one name.
+  -- At status 4 there are records, and at 3 and 5 there are none. At 8 there are none and no file changed, or all auctions ended.
+  -- In a modelled folder, if there are records at 8, the results are stored up to one name.
   pub recorded : status ≡ UNWRITTEN → IsBatchRun names before batch
   pub unrecorded : IsTrue (is_in (UNREAD ∷ REFUSED ∷ []) status) → batch ≡ []
   pub starved : status ≡ NO_MEMORY → ((batch ≡ []) × (after.files ≡ before.files)) ⊎ IsBatchRun names before batch
   pub part_stored : (files : List StoredFile) → before.files ≡ Some files → status ≡ NO_MEMORY → batch ≢ [] →
       IsBatchPart files names before after batch
-  -- Over modelled files, at status 5 the reading first stops at a file that is too long or rejected, or at a repeated result
-  -- name. The line says which. A batch of this kind ends at status 5, unless memory ran out or an unsteady folder failed to read.
+  -- In a modelled folder, at status 5 the reading first stops at a file that is too long or rejected, or at a repeated result name.
+  -- The line says which. A batch of this kind ends at status 5, unless memory ran out or an unsteady folder failed to read.
   pub refused : (files : List StoredFile) → before.files ≡ Some files → status ≡ REFUSED →
       (stop : BatchStop) × IsRefusing stop × (batch_of files names ≡ Err stop) × IsSaid before after (refused_line stop)
   pub refuses : (files : List StoredFile) (stop : BatchStop) → before.files ≡ Some files → batch_of files names ≡ Err stop → IsRefusing stop →
       IsOr REFUSED before status
-  -- At status 3 the folder's fault count rose, and the line names a file of the words or a scenario of the list. The other
-  -- clauses are for a steady folder whose files are modelled. If the reading first stops at a missing file, the line names that
-  -- file at status 3, or the status is 8. If it stops at no missing file, the status is not 3.
+  -- At status 3 the folder's fault count rose, and the line names a file of the words or a scenario of the list. The other clauses
+  -- are for a steady modelled folder. If the reading first stops at a missing file, the line names that file at status 3, or the
+  -- status is 8. If it stops at no missing file, the status is not 3.
   pub unread : status ≡ UNREAD → HasRisen before.faults after.faults
       × ((own : InputNames) × (input : Input) × IsUnderList names before own × IsSaid before after (unread_line (name_of own input)))
   pub missing : (files : List StoredFile) (own : InputNames) (input : Input) → before.files ≡ Some files → before.steady ≡ true →
@@ -122,7 +122,7 @@ pub record BatchPromises (names : BatchNames) (before after : Outside) (status :
       (status ≡ NO_MEMORY) ⊎ ((status ≡ UNREAD) × IsSaid before after (unread_line (name_of own input)))
   pub surely_read : (files : List StoredFile) → before.files ≡ Some files → before.steady ≡ true →
       ((own : InputNames) (input : Input) → batch_of files names ≢ Err (Unread own (CannotRead input))) → status ≢ UNREAD
-  -- At status 4 the fault count of the folder or of the sink rose. Over modelled files, either a store failed, or the results are
+  -- At status 4 the fault count of the folder or of the sink rose. In a modelled folder, either a store failed, or the results are
   -- stored and the sink failed at the status lines. The status is not 4 with a steady folder and a sink that guarantees room for
   -- the lines.
   pub unwritten : status ≡ UNWRITTEN → HasRisen before.faults after.faults ⊎ HasRisen before.cuts after.cuts
@@ -130,11 +130,11 @@ pub record BatchPromises (names : BatchNames) (before after : Outside) (status :
       IsBatchUnstored files names before after batch ⊎ IsBatchCut files names before after batch
   pub surely_written : before.steady ≡ true → ((run : IsBatchRun names before batch) → length (status_lines run.held.lines batch) ≤ before.sure) →
       status ≢ UNWRITTEN
-  -- Over modelled files, an accepted batch ends at status 0, 1, 4 or 11, unless memory ran out or an unsteady folder failed to
+  -- In a modelled folder, an accepted batch ends at status 0, 1, 4 or 11, unless memory ran out or an unsteady folder failed to
   -- read.
   pub complete : (files : List StoredFile) (held : HeldBatch) → before.files ≡ Some files → batch_of files names ≡ Ok held →
       IsOr DONE before status ⊎ IsTrue (is_in (LEFT_OPEN ∷ UNWRITTEN ∷ SOME_UNSTARTED ∷ []) status)
-  -- Over modelled files of an accepted batch, no file changes except those of the results. No file changes without records.
+  -- In a modelled folder with an accepted batch, no file changes except those of the results. No file changes without records.
   pub others : (files : List StoredFile) (held : HeldBatch) → before.files ≡ Some files → batch_of files names ≡ Ok held →
       MatchOption after.files ⊥ (λ new. AllOthersStand files new (map (λ line. line.result) held.lines))
   pub untouched : batch ≡ [] → after.files ≡ before.files

@@ -11,8 +11,8 @@ use Rattle.commands.specs.ResumeEnds.{ResumeEnds}
 use Rattle.auction_cmd.specs.ResumePromises.{ResumePromises}
 use Rattle.command_words.specs.Words.{BatchNames, ResumeNames, repeated_resume}
 
--- How the program ends. `resume` continues an auction only if no output name is repeated and no owners' file is named. The
--- records of a batch are a separate list: a batch has no other record, and no other plan has that list.
+-- How the program ends. `resume` continues an auction only if no output name is repeated and no owners' file is named. The records
+-- of a batch are a separate list: a batch has no other record, and no other plan has records in that list.
 pub data ProgramEnds (plan : Plan) (before after : Outside) (status : ℕ) (found below : Option Record) (batch : List Record) : Type 0 where
   Single : Ends plan before after status found below → batch ≡ [] → ProgramEnds plan before after status found below batch
   Resumed : (names : ResumeNames) → plan ≡ resumes names → names.run_files.inputs.owners ≡ None → repeated_resume names ≡ None →
@@ -20,7 +20,7 @@ pub data ProgramEnds (plan : Plan) (before after : Outside) (status : ℕ) (foun
   Batched : (names : BatchNames) → plan ≡ batches names → BatchEnds names before after status batch → found ≡ None → below ≡ None →
       ProgramEnds plan before after status found below batch
 
--- The plan is `batch`.
+-- Whether the plan is `batch`.
 abbrev pub is_batch : Plan → Bool
 is_batch no_command = false
 is_batch (repeats name) = false
@@ -34,7 +34,7 @@ is_batch (makes names) = false
 is_batch (exports names) = false
 is_batch (imports names) = false
 
--- The plan is `resume`.
+-- Whether the plan is `resume`.
 abbrev pub is_resumption : Plan → Bool
 is_resumption no_command = false
 is_resumption (repeats name) = false

@@ -28,7 +28,7 @@ use Rattle.commands.specs.Verified.{fault_line, verified}
 use Rattle.commands.specs.VerifyPromises.{AreAllThere, IsGiven, IsOr}
 use Rattle.command_words.specs.Words.{ResumeNames, begun_names, output_names}
 
--- The auction continued from what is kept of the beginning that was read, and each kept step verifies. The record is of the
+-- Whether the auction continued from what is kept of the beginning that was read, and each kept step verifies. The record is of the
 -- auction of the inputs in the beginning's order, and continues what is kept.
 pub record IsResumed (names : ResumeNames) (before after : Outside) (status : ℕ) (found : Option Record) : Type 0 where
   pub inputs : Inputs
@@ -52,32 +52,32 @@ pub record IsResumed (names : ResumeNames) (before after : Outside) (status : �
 pub record ResumePromises (names : ResumeNames) (before after : Outside) (status : ℕ) (found : Option Record) : Type 0 where
   -- The status is 0, 1 or from 3 to 9.
   pub statuses : IsTrue (is_in (DONE ∷ LEFT_OPEN ∷ UNREAD ∷ UNWRITTEN ∷ REFUSED ∷ START_UNFIT ∷ START_OPEN ∷ NO_MEMORY ∷ NOT_SHOWN ∷ []) status)
-  -- Where there is a record, the auction continued. There is a record at status 0, 1, 4, 6 and 7, and at 8 there may be one. Any
+  -- If there is a record, the auction continued. There is a record at status 0, 1, 4, 6 and 7, and at 8 there may be one. Any
   -- record is backed. There is none at 3, 5 and 9.
   pub resumed : IsSome found → IsResumed names before after status found
   pub recorded : IsTrue (is_in (DONE ∷ LEFT_OPEN ∷ UNWRITTEN ∷ START_UNFIT ∷ START_OPEN ∷ []) status) → IsSome found
   pub backed : MatchOption found ⊤ IsSomeRecord
   pub unrecorded : IsTrue (is_in (UNREAD ∷ REFUSED ∷ NOT_SHOWN ∷ []) status) → found ≡ None
-  -- Over modelled files, at status 9 the beginning's text is rejected or a kept step doesn't verify. The line says which is the
-  -- first fault and why. A beginning with a fault of this kind ends at status 9, unless memory ran out or an unsteady folder
-  -- failed to read.
+  -- In a modelled folder, at status 9 the beginning's text is rejected or a kept step does not verify. The line says which is the
+  -- first fault and why. A beginning with a fault of this kind ends at status 9, unless memory ran out or an unsteady folder failed
+  -- to read.
   pub refused : (files : List StoredFile) → before.files ≡ Some files → status ≡ NOT_SHOWN →
       (inputs : Inputs) × (text : List ℕ) × IsGiven files (begun_names names) inputs text × (fault : TranscriptFault)
       × (begun inputs text ≡ Err fault) × IsSaid before after (fault_line names.prefix fault)
   pub refuses : (files : List StoredFile) (inputs : Inputs) (text : List ℕ) (fault : TranscriptFault) →
       before.files ≡ Some files → IsGiven files (begun_names names) inputs text → begun inputs text ≡ Err fault → IsOr NOT_SHOWN before status
-  -- Over modelled files, if each kept step verifies and the start set fits, the auction continues: the status is 0, 1, 4 or 7.
-  -- The beginning of any sound transcript ends in the same way, wherever it is cut. Otherwise memory ran out, or an unsteady
-  -- folder failed to read.
+  -- In a modelled folder, if each kept step verifies and the start set fits, the auction continues: the status is 0, 1, 4 or 7. The
+  -- beginning of any sound transcript ends in the same way, wherever it is cut. Otherwise memory ran out, or an unsteady folder
+  -- failed to read.
   pub complete : (files : List StoredFile) (inputs : Inputs) (text : List ℕ) (kept : Prefix) →
       before.files ≡ Some files → IsGiven files (begun_names names) inputs text → begun inputs text ≡ Ok kept → StartFits inputs →
       IsOr DONE before status ⊎ IsTrue (is_in (LEFT_OPEN ∷ UNWRITTEN ∷ START_OPEN ∷ []) status)
   pub any_cut : (files : List StoredFile) (inputs : Inputs) (text behind : List ℕ) (rec : Record) →
       before.files ≡ Some files → IsGiven files (begun_names names) inputs text → verified inputs (text ++ behind) ≡ Ok rec →
       IsOr DONE before status ⊎ IsTrue (is_in (LEFT_OPEN ∷ UNWRITTEN ∷ START_OPEN ∷ []) status)
-  -- A complete sound transcript leaves nothing to continue. Over modelled files the status is 0, or 1 if a test is undecided, or
-  -- 4, unless memory ran out or an unsteady folder failed. At status 0 and 1 the record is the one that the transcript shows, and
-  -- TRANSCRIPT holds the same bytes.
+  -- A complete sound transcript leaves nothing to continue. In a modelled folder the status is 0, or 1 if a test is undecided, or
+  -- 4, unless memory ran out or an unsteady folder failed. At status 0 and 1 the record is the one that the transcript certifies,
+  -- and TRANSCRIPT holds the same bytes.
   pub whole_done : (files : List StoredFile) (inputs : Inputs) (text : List ℕ) (rec : Record) →
       before.files ≡ Some files → IsGiven files (begun_names names) inputs text → verified inputs text ≡ Ok rec →
       IsOr (done_status (undecided_of rec.steps)) before status ⊎ (status ≡ UNWRITTEN)
@@ -85,12 +85,12 @@ pub record ResumePromises (names : ResumeNames) (before after : Outside) (status
       before.files ≡ Some files → IsGiven files (begun_names names) inputs text → verified inputs text ≡ Ok rec →
       IsTrue (is_in (DONE ∷ LEFT_OPEN ∷ []) status) →
       (found ≡ Some rec) × MatchOption after.files ⊥ (λ new. bytes_of new names.run_files.transcript ≡ Some text)
-  -- Over modelled files, if each kept step verifies and the start set doesn't fit, the status is 6 or 7. Otherwise memory ran
+  -- In a modelled folder, if each kept step verifies and the start set does not fit, the status is 6 or 7. Otherwise memory ran
   -- out, or an unsteady folder failed to read.
   pub unfits : (files : List StoredFile) (inputs : Inputs) (text : List ℕ) (kept : Prefix) →
       before.files ≡ Some files → IsGiven files (begun_names names) inputs text → begun inputs text ≡ Ok kept → StartUnfit inputs →
       IsOr START_UNFIT before status ⊎ (status ≡ START_OPEN)
-  -- Over modelled files, at status 5 an input is too long or rejected, or the inputs are accepted and the beginning is too long.
+  -- In a modelled folder, at status 5 an input is too long or rejected, or the inputs are accepted and the beginning is too long.
   -- The line says which. Files of this kind end at status 5, unless memory ran out or an unsteady folder failed.
   pub halted : (files : List StoredFile) → before.files ≡ Some files → status ≡ REFUSED →
       ((why : Refusal) × (inputs_of files names.run_files.inputs ≡ Err (Refused why)) × IsSaid before after (refusal_line names.run_files.inputs why))
@@ -101,9 +101,9 @@ pub record ResumePromises (names : ResumeNames) (before after : Outside) (status
   pub refuses_long : (files : List StoredFile) (inputs : Inputs) (bytes : List ℕ) →
       before.files ≡ Some files → inputs_of files names.run_files.inputs ≡ Ok inputs → bytes_of files names.prefix ≡ Some bytes →
       transcript_limit < length bytes → IsOr REFUSED before status
-  -- At status 3 the folder's fault count rose, and the line names an input or the beginning. Over a steady folder whose modelled
-  -- files include all those that `resume` reads, the status is not 3. If a steady folder's reading first stops at a missing file,
-  -- the line names that file at status 3, or the status is 8.
+  -- At status 3 the folder's fault count rose, and the line names an input or the beginning. In a steady modelled folder with all
+  -- files that `resume` reads, the status is not 3. If the reading in a steady folder first stops at a missing file, the line names
+  -- that file at status 3, or the status is 8.
   pub unread : status ≡ UNREAD → HasRisen before.faults after.faults
   pub unread_says : status ≡ UNREAD →
       ((input : Input) × IsSaid before after (unread_line (name_of names.run_files.inputs input))) ⊎ IsSaid before after (unread_line names.prefix)
@@ -116,8 +116,8 @@ pub record ResumePromises (names : ResumeNames) (before after : Outside) (status
       (status ≡ NO_MEMORY) ⊎ ((status ≡ UNREAD) × IsSaid before after (unread_line names.prefix))
   -- At status 4 the fault count of the folder or of the sink rose.
   pub unwritten : status ≡ UNWRITTEN → HasRisen before.faults after.faults ⊎ HasRisen before.cuts after.cuts
-  -- Over modelled files, no file changes except RESULT, CHANNELS and TRANSCRIPT. No file changes without a record, nor at status
-  -- 6 and 7.
+  -- In a modelled folder, no file changes except RESULT, CHANNELS and TRANSCRIPT. No file changes without a record, nor at status 6
+  -- and 7.
   pub others : (files : List StoredFile) → before.files ≡ Some files →
       MatchOption after.files ⊥ (λ new. AllOthersStand files new (output_names names.run_files))
   pub untouched : found ≡ None → after.files ≡ before.files

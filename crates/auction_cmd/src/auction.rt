@@ -1,4 +1,4 @@
-//! The program: from the words of the command line to what stands in the files and in the sink.
+//! The program: from the words of the command line to what is stored in files and written to the sink.
 
 ghost use Rattle.std.specs.Prelude.{◌≡◌, [], None, map};
 ghost use Rattle.std.specs.String.{string_bytes};
@@ -30,7 +30,7 @@ use std::alloc::Global;
 use std::sync::Wait;
 use std::thread::Threads;
 
-// Says that this output name is given twice.
+// Writes that this output name is given twice.
 fn refuse_twice<K: Sink>(out: &mut K, name: &str) -> Finish
     ensures status { result.status ≡ REFUSED }
     ensures none { result.result ≡ None }
@@ -42,7 +42,7 @@ fn refuse_twice<K: Sink>(out: &mut K, name: &str) -> Finish
     Finish::without_record(REFUSED)
 }
 
-// Carries out what the words ask for.
+// Carries out the command of these words.
 fn carry_out<F: Folder, K: Sink, G: Gate + Sync, W: Threads + Wait + Sync>(
     rt: &W,
     alloc: Global,
@@ -92,58 +92,70 @@ fn carry_out<F: Folder, K: Sink, G: Gate + Sync, W: Threads + Wait + Sync>(
     }
 }
 
-/// Runs the program on these words, the first of which is its name.
+/// Runs the program on these words, the first of which is its name. Writes the files of the folder and to the sink, and returns the
+/// status and the records of the auctions.
 ///
-/// - `run DOMAINS ROWS SCENARIO RESULT CHANNELS TRANSCRIPT` reads the three inputs, carries the auction out by the clock
-///   rule, stores the result, the channels of the stations on air and the transcript, in this order, and writes the summary.
-///   The solvers of all the scenario's workers try each query at once, each in a thread of its own, and, by turns, one after
-///   another on this thread. Each calls the gate before and after it posts an answer; a gate changes nothing of the result.
-/// - `check DOMAINS ROWS SCENARIO` reads the three inputs and writes how many stations and pairs they have.
-/// - `verify DOMAINS ROWS SCENARIO TRANSCRIPT` reads the three inputs and a transcript, checks each of its steps and writes
-///   the result that it shows.
-/// - `live DOMAINS ROWS SCENARIO OWNERS RESULT CHANNELS TRANSCRIPT` does what `run` does, but the owners say round by round, in
-///   the file OWNERS, which station stays; the stations' values are read and checked, and not used.
-/// - `verify-live DOMAINS ROWS SCENARIO OWNERS TRANSCRIPT` does what `verify` does with the transcript of such a live auction.
-/// - `resume DOMAINS ROWS SCENARIO PREFIX RESULT CHANNELS TRANSCRIPT` reads the three inputs and the beginning of a transcript,
-///   cut anywhere, checks each step that is there whole of it, goes on with the auction behind them, and stores and writes what
-///   `run` does. What was shown stays as it stands.
-/// - `seek DOMAINS ROWS SCENARIO CHANNELS` seeks the least top channel, from 14 to the scenario's own, up to which the stations
-///   fit that start on air, by auctions of these stations alone, stores a channel up to it for each of them and writes it.
-/// - `batch DOMAINS ROWS LIST` reads the constraint files and a list of at most 256 lines, each a scenario and a file for its
-///   result, and the scenarios; carries all their auctions out, as many at a time as the machine has processors, as `run` does
-///   each, by solvers that share what they answered; stores the results and writes a line for each scenario, with its auction's
-///   own status: `DONE`, `LEFT_OPEN`, `START_UNFIT` or `START_OPEN` of `status`, as those of `run`.
-/// - `make SEED SIZE DOMAINS ROWS SCENARIO` makes the three files of an auction of SIZE stations from the number SEED, stores
-///   them in this order, carries the auction out as `run` does and writes the summary. The same SEED and SIZE make the same
+/// - `run DOMAINS ROWS SCENARIO RESULT CHANNELS TRANSCRIPT` reads the three inputs and carries the auction out by the clock rule.
+///   It stores the result, the channels of the stations on air and the transcript, in this order, and writes the summary. The
+///   solvers of all the scenario's workers try each query at once, each in its own thread if one can be made. After each such race
+///   they try the current query one after another in this thread. Each solver calls the gate before and after it posts an answer; a
+///   gate never changes the result.
+/// - `check DOMAINS ROWS SCENARIO` reads the three inputs and writes their numbers of stations and pairs.
+/// - `verify DOMAINS ROWS SCENARIO TRANSCRIPT` reads the three inputs and a transcript, checks each of its steps and writes the
+///   result that the transcript certifies.
+/// - `live DOMAINS ROWS SCENARIO OWNERS RESULT CHANNELS TRANSCRIPT` does what `run` does, except that the file OWNERS says for each
+///   round which stations stay. The stations' values are read and checked, but not used.
+/// - `verify-live DOMAINS ROWS SCENARIO OWNERS TRANSCRIPT` does what `verify` does, with the transcript of a live auction.
+/// - `resume DOMAINS ROWS SCENARIO PREFIX RESULT CHANNELS TRANSCRIPT` reads the three inputs and the beginning of a transcript, cut
+///   anywhere. It checks each complete step, continues the auction after these, and stores and writes what `run` does. The steps
+///   that were read are kept.
+/// - `seek DOMAINS ROWS SCENARIO CHANNELS` finds the least top channel, from 14 to the scenario's own, up to which the stations fit
+///   that start on air. It carries out auctions of these stations alone, stores a channel for each of them and writes the top
+///   channel.
+/// - `batch DOMAINS ROWS LIST` reads the constraint files, a list of at most 256 lines, each a scenario and a file for its result,
+///   and the scenarios. It carries out all their auctions as `run` does, as many at a time as the machine has processors, by
+///   solvers that share their answers. It stores the results and writes a line for each scenario, with its auction's own status:
+///   `DONE`, `LEFT_OPEN`, `START_UNFIT` or `START_OPEN` of `status`.
+/// - `make SEED SIZE DOMAINS ROWS SCENARIO` makes the three files of an auction of SIZE stations from the number SEED and stores
+///   them in this order. It carries the auction out as `run` does and writes the summary. The same SEED and SIZE give the same
 ///   files.
-/// - `export DOMAINS ROWS SCENARIO TRANSCRIPT STEP CNF` checks a transcript as `verify` does and stores the packing formula of the
-///   stations that its step STEP asked about, as DIMACS CNF.
-/// - `import DOMAINS ROWS SCENARIO TRANSCRIPT STEP LRAT RESULT NEWTRANSCRIPT` checks a transcript as `verify` does, settles its
-///   undecided step STEP by a log in LRAT's lines that refutes that formula, stores the result and the transcript of the record
-///   that is left, in this order, and writes the summary.
+/// - `export DOMAINS ROWS SCENARIO TRANSCRIPT STEP CNF` checks a transcript as `verify` does. It stores the packing formula of the
+///   stations that the step STEP asked about, as DIMACS CNF.
+/// - `import DOMAINS ROWS SCENARIO TRANSCRIPT STEP LRAT RESULT NEWTRANSCRIPT` checks a transcript as `verify` does. It decides the
+///   undecided step STEP by a log in the format of LRAT that refutes this formula. It stores the new result and transcript, in this
+///   order, and writes the summary.
 ///
-/// The status is 0 where all is done and every test was decided; 1 where all is done and some test was not, for `seek` that
-/// of one channel less; 2 where the words are no command, help and version included; 3 where a file can't be read; 4 where a
-/// file can't be stored, or the summary, the counts, the result, the top channel or a batch's lines can't be written; 5 where
-/// an output name is given twice, or a file is too long or an input refused; 6 where the start set doesn't fit; 7 where no
-/// worker decides whether it does; 8 for want of memory; 9 where the transcript's text is refused or a step of it isn't shown;
-/// 10 where it has no step STEP or, for `import`, that isn't undecided, or the log's text is refused or it refutes nothing; 11
-/// where all of a batch is done, and an auction of it ended at its start, as at 6 or 7. At each but 0, 1 and 11 a line says so;
-/// where the sink fails at the summary, the counts, the result, the top channel or a batch's lines there is none. Each has its
-/// name in `status`.
+/// The status is one of these, named in `status`:
+///
+/// - 0: all is done, and every test is decided.
+/// - 1: all is done, and some test is undecided; for `seek`, the test with one channel less is undecided.
+/// - 2: the words are not a command, or ask for help or the version.
+/// - 3: a file cannot be read.
+/// - 4: a file cannot be stored, or the summary, the counts, the result, the top channel or the lines of a batch cannot be written.
+/// - 5: an output name is given twice, a file is too long, or an input is rejected.
+/// - 6: the start set does not fit.
+/// - 7: no worker decides whether the start set fits.
+/// - 8: memory ran out.
+/// - 9: the transcript's text is rejected, or one of its steps does not verify.
+/// - 10: there is no step STEP; for `import` also: the step is not undecided, the log's text is rejected, or the log refutes
+///   nothing.
+/// - 11: all of a batch is done, and some auction of it ended at its start, as at 6 or 7.
+///
+/// At each status except 0, 1 and 11 a line says why. There is no such line if the sink fails at the summary, the counts, the
+/// result, the top channel or the lines of a batch.
 ///
 /// # Example
 ///
-/// Over files in memory, where `files` holds the three inputs and `words` are those of
-/// `repack run domains.csv rows.csv scenario.json result.csv channels.csv transcript.txt`:
+/// Over files in memory: `files` has the three inputs, and `words` are those of `repack run domains.csv rows.csv scenario.json
+/// result.csv channels.csv transcript.txt`.
 ///
 /// ```
 /// let mut folder = MemoryFolder::new(files, Vec::new(alloc));
-/// // What is printed may have 9,999 bytes, and no write fails before.
+/// // The sink takes 9,999 bytes, and no write fails before.
 /// let mut printed = MemorySink::new(alloc, 9_999, Vec::new(alloc))?;
 /// let finish = auction_main(&rt, alloc, &words, &mut folder, &mut printed, &EmptyGate);
 /// assert_eq!(finish.status, status::DONE);
-/// // What became of each station, and what is kept of the auction: how each of its tests was settled.
+/// // The outcome of each station, and the record of the auction, which has the answer to each test.
 /// let (result, record) = (folder.bytes("result.csv"), finish.result);
 /// ```
 pub fn auction_main<F: Folder, K: Sink, G: Gate + Sync, W: Threads + Wait + Sync>(
@@ -154,15 +166,15 @@ pub fn auction_main<F: Folder, K: Sink, G: Gate + Sync, W: Threads + Wait + Sync
     out: &mut K,
     gate: &G,
 ) -> Finish
-    // How it ends, case by case.
+    // How the program ends, case by case.
     ensures ends { ProgramEnds (plan_of (map string_bytes words.now)) (outside (F.told folder.old) (K.told out.old))
         (outside (F.told folder.new) (K.told out.new)) result.status result.result result.below result.batch }
 
-    // What may be relied on, a clause each.
+    // What the reader may rely on: one clause for each promise.
     ensures promises { ProgramPromises (plan_of (map string_bytes words.now)) (outside (F.told folder.old) (K.told out.old))
         (outside (F.told folder.new) (K.told out.new)) result.status result.result result.below result.batch }
 
-    // At which statuses the outside's counts of faults stand.
+    // At which statuses the fault counts of the outside stay.
     ensures counted { AreFaultsCounted
         (outside (F.told folder.old) (K.told out.old)) (outside (F.told folder.new) (K.told out.new)) result.status }
 {

@@ -1,8 +1,9 @@
-//! The program, over any folder, any sink and any gate: it reads the words of the command line, and carries out the command that
-//! they are.
+//! The program, over any folder, sink and gate: it parses the words of the command line and carries out the command.
 //!
-//! It may call `commands` and `command_words`, and what these stand on. `auction_cli`, which is the program, and the tests call it;
-//! no other crate knows of it.
+//! The contract of `auction_main` is what the project proves. This crate may call `commands`, `command_words` and the crates below
+//! them. `auction_cli`, which is the program, and the tests call it; no other crate knows it. Its only module:
+//!
+//! - `auction`: `auction_main`, which carries out the command of the words.
 #![tactic(auto)]
 
 pub mod auction;

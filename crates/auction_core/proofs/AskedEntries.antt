@@ -1,4 +1,4 @@
--- The entries of the stations that a test asks about, by one walk along the places.
+-- The channel map entries of the stations that a test asks about, in one pass over the slots. For `parts::asked_on`.
 use Rattle.std.proofs.Common.{◌≡◌, ◌∙◌, ℕ, ◌+◌, ◌<◌, ◌≤◌, Bool, true, false, cond, List, [], ◌∷◌, ◌++◌, ◌==◌, filter, drop, length, get_or, Option, Some, None, refl, sym, ap, arith, eq-eqb, append-nil, append_assoc}
 use Rattle.std.proofs.lemmas.Bool.{both_ways, cond-false, cond-true, false_from_ne_true, or_left, or_right}
 use Rattle.std.proofs.lemmas.List.{get_or_default}
@@ -11,7 +11,7 @@ use Rattle.auction_core.proofs.Answers.{filter-in, in-filter}
 use Rattle.auction_core.proofs.PartLemmas.{label-at}
 use Rattle.auction_core.proofs.Placed.{places-more, with_own}
 
--- the entries whose stations pass a test, of the places that are left
+-- the entries of the stations that satisfy p, in the slots from i on
 abbrev pub passing : (ℕ → Bool) → List ℕ → List (Option ℕ) → ℕ → List (ℕ × ℕ)
 passing p ss cs i = filter (λ e. p e.0) (placed_entries (drop i ss) (drop i cs))
 
@@ -23,7 +23,7 @@ own-on : (p : ℕ → Bool) (s : ℕ) (o : Option ℕ) (es : List (ℕ × ℕ)) 
 own-on p s None es h = refl
 own-on p s (Some c) es h = cond-true (p s) ((s, c) ∷ filter (λ e. p e.0) es) (filter (λ e. p e.0) es) h
 
--- ---- one place more
+-- ---- one more slot
 
 module _ (ss : List ℕ) (cs : List (Option ℕ)) (done all : List (ℕ × ℕ)) (p : ℕ → Bool) (i z : ℕ) (same : length cs ≡ length ss) (inside : i < length ss) (here : get_or ss i 0 ≡ z) where
   abbrev rest : List (ℕ × ℕ)
@@ -46,12 +46,12 @@ module _ (ss : List ℕ) (cs : List (Option ℕ)) (done all : List (ℕ × ℕ))
       append_assoc done ((z, c) ∷ []) (passing p ss cs (i + 1))
       ∙ (ap (λ xs. done ++ xs) (sym (ap (filter (λ e. p e.0)) (more o is) ∙ (own-on p z o rest on ∙ ap (λ q. with_own z q (passing p ss cs (i + 1))) some))) ∙ h)
 
--- no place is left
+-- no slot is left
 pub entries-done : (ss : List ℕ) (cs : List (Option ℕ)) (done all : List (ℕ × ℕ)) (p : ℕ → Bool) (i : ℕ) → length ss ≤ i → done ++ passing p ss cs i ≡ all → done ≡ all
 entries-done ss cs done all p i l h =
     sym (append-nil done) ∙ ap (λ xs. done ++ xs) (sym (ap (λ xs. filter (λ e. p e.0) (placed_entries xs (drop i cs))) (drop_of_length-le ss l))) ∙ h
 
--- ---- those of the set
+-- ---- the entries of the set
 
 kept-in : (p : ℕ → Bool) (ss : List ℕ) (z : ℕ) → is_in ss z ≡ true → is_in (filter p ss) z ≡ p z
 kept-in p ss z h =
@@ -69,10 +69,10 @@ within-set p set (s ∷ ss) (Some c ∷ cs) h =
     ap (λ xs. cond (p s) ((s, c) ∷ xs) xs) more
     ∙ ap (λ b. cond b ((s, c) ∷ restricted (placed_entries ss cs) set) (restricted (placed_entries ss cs) set)) (sym (h s (or_left (s == s) (is_in ss s) (eq-eqb s s refl))))
 
--- the entries of the stations that pass are those of the set of them
+-- the entries of the stations that satisfy p are the entries restricted to the set of these stations
 pub entries-of : (p : ℕ → Bool) (ss : List ℕ) (cs : List (Option ℕ)) (set : List ℕ) → set ≡ filter p ss → filter (λ e. p e.0) (placed_entries ss cs) ≡ restricted (placed_entries ss cs) set
 entries-of p ss cs set is = within-set p (filter p ss) ss cs (kept-in p ss) ∙ ap (restricted (placed_entries ss cs)) (sym is)
 
--- what is asked at a place
+-- what a test asks about at one slot
 pub asked-here : (s l i d : ℕ) (marks : List Bool) (fs ls : List ℕ) (b : Bool) → is_ascending fs ≡ true → length ls ≡ length fs → i < length fs → get_or ls i d ≡ l → is_asked s marks (get_or fs i 0) l ≡ b → is_asked s marks (get_or fs i 0) (label_in fs ls (get_or fs i 0)) ≡ b
 asked-here s l i d marks fs ls b up long inside own is = ap (is_asked s marks (get_or fs i 0)) (label-at fs ls i (get_or fs i 0) d up long inside refl ∙ own) ∙ is

@@ -1,4 +1,4 @@
--- A posting that was looked at goes into a history that replays.
+-- A posting whose answer was checked goes into a history that replays. For `auction`.
 use Rattle.std.proofs.Common.{◌≡◌, ℕ, ◌-◌, ◌≤◌, Bool, true, false, ◌&&◌, nat_lt, if◌then◌else◌, List, [], ◌∷◌, ◌++◌, length, Option, Some, None, option_and_then, refl, sym, ap, ◌∙◌, subst, arith}
 use Rattle.std.proofs.lemmas.Bool.{and_parts, cond-true, lt-ltb, ltb-true}
 use Rattle.pack_defs.specs.Book.{BookView, IsInOrder}
@@ -28,17 +28,17 @@ use Rattle.auction_core.proofs.TakingLemmas.{taken-told, taken-turned}
 pub is-auction : (sc : Scenario) (book : BookView) → IsOfAuction sc book → IsInOrder book → IsAuction sc book
 is-auction sc book a o = let some = a.limits.some_worker in record { stations = a.limits.ascend; in_order = o; workers = omega arith }
 
--- an auction whose history replays to its state keeps the rule
+-- an auction whose history replays keeps the rule
 pub replayed-rule : (sc : Scenario) (book : BookView) (opened : CoreState) (history : List EntryView) (state : CoreState) → IsReplayed sc book opened history state → KeepsTheRule sc book state
 replayed-rule sc book opened history state h =
     let a = is-auction sc book h.auction h.in_order in
     kept-rule sc book state (replay-keeps sc book history opened state a (rule-kept sc book opened h.kept) h.replays)
 
--- with no entry the state is the one in which it was opened
+-- without entries, the history replays to the opened state
 none-replayed : (sc : Scenario) (book : BookView) (opened : CoreState) → IsOfAuction sc book → IsInOrder book → KeepsTheRule sc book opened → IsReplayed sc book opened [] opened
 none-replayed sc book opened a o k = record { auction = a; in_order = o; kept = k; replays = refl }
 
--- ---- one entry more
+-- ---- one more entry
 
 from-push : (sc : Scenario) (book : BookView) (es : List EntryView) (e : EntryView) (at state new : CoreState) → replay_from sc book es at ≡ Some state → after_entry sc book state e e.answer ≡ Some new → replay_from sc book (es ++ e ∷ []) at ≡ Some new
 from-push sc book [] e at state new h k =
@@ -51,7 +51,7 @@ from-push sc book (x ∷ xs) e at state new h k =
     ] in
     go (after_entry sc book at x x.answer) h
 
--- the entry of a posting that was told this leads to this state
+-- the entry of a posting with this reply leads to this state
 abbrev Leads : Scenario → BookView → CoreState → Posting → Reply → CoreState → Type 0
 Leads sc book state posting reply new =
     after_entry sc book state (entry_told posting reply) (option_and_then (kept_answer reply) (let_through posting.said)) ≡ Some new
@@ -69,7 +69,7 @@ turned-told sc book state posting reply t =
     (λ e. ap (after_entry sc book state (entry_told posting Stranger)) (none-kept Stranger o (λ answer. refl)) ∙ turned-leads sc book state (with_answer posting (Fit [])) Stranger e)
     t t
 
--- the entry of this reply, where this is what the posting says
+-- the entry of a posting with this verdict and reply leads to this state
 abbrev LeadsBy : Scenario → BookView → CoreState → Posting → Said → Reply × CoreState → Type 0
 LeadsBy sc book state posting said out =
     after_entry sc book state (entry_told posting out.0) (option_and_then (kept_answer out.0) (let_through said)) ≡ Some out.1
@@ -96,7 +96,7 @@ told-replays : (sc : Scenario) (book : BookView) (opened : CoreState) (history :
 told-replays sc book opened history state new posting reply h may e =
     from-push sc book history (entry_told posting reply) opened state new h.replays (subst (LeadsBy sc book state posting posting.said) (sym e) (taken-leads sc book state posting may))
 
--- which has the same order
+-- the state after the posting has the same order
 pub told-order : (sc : Scenario) (book : BookView) (opened : CoreState) (history : List EntryView) (state new : CoreState) (posting : Posting) (reply : Reply) → IsReplayed sc book opened history state → MayBeTaken sc book state posting → (reply, new) ≡ taken sc book state posting → new.order ≡ state.order
 told-order sc book opened history state new posting reply h may e =
     replay-order sc book (history ++ entry_told posting reply ∷ []) opened new (told-replays sc book opened history state new posting reply h may e)
@@ -112,7 +112,7 @@ told-replayed sc book opened history state new posting reply h may e = record {
 
 -- ---- what the program keeps
 
--- with nothing noted the auction stands where its clock does
+-- with no pending receipt, the state of the auction is that of its query session
 pub state-of-clock : (clockwork : ClockworkView) (notes : NotesView) → clockwork.state.noted ≡ [] → notes.noted ≡ [] → state_at clockwork notes ≡ clockwork.state
 state-of-clock clockwork notes e n = ap (λ noted. record clockwork.state { noted = noted }) (n ∙ sym e)
 
@@ -122,7 +122,7 @@ first-between clockwork notes a o k e w n = record {
   replayed = subst (IsReplayed clockwork.scenario clockwork.book clockwork.state []) (sym (state-of-clock clockwork notes e n)) (none-replayed clockwork.scenario clockwork.book clockwork.state a o k);
 }
 
--- the same scenario and book in other words
+-- the same for an equal scenario and book
 moved : (sc sc' : Scenario) (book book' : BookView) (opened : CoreState) (history : List EntryView) (state : CoreState) → sc' ≡ sc → book' ≡ book → IsReplayed sc book opened history state → IsReplayed sc' book' opened history state
 moved sc sc' book book' opened history state e f h =
     subst (λ x. IsReplayed x book' opened history state) (sym e) (subst (λ x. IsReplayed sc x opened history state) (sym f) h)
@@ -139,7 +139,7 @@ one-kept false y f = omega arith
 one-kept true true f = omega arith
 one-kept true false f = let no : false ≡ true = f refl in cc
 
--- room for a posting is there still where none of it is lost
+-- if no room is lost, there is still room for a posting
 pub spare-kept : (clockwork clockwork' : ClockworkView) (notes notes' : NotesView) (capacity capacity' len len' : ℕ)
     → (clockwork.ready ≡ true → clockwork'.ready ≡ true) → (notes.ready ≡ true → notes'.ready ≡ true) → capacity ≤ capacity' → len' ≡ len
     → spare_of clockwork notes (capacity - len) ≤ spare_of clockwork' notes' (capacity' - len')
@@ -155,7 +155,7 @@ some-spare true true entries h = (refl, refl)
 some-spare true false entries h = absurd (omega arith)
 some-spare false b entries h = absurd (omega arith)
 
--- where there is room for a posting, all is ready for it
+-- if there is room for a posting, everything is ready for it
 pub spare-ready : (clockwork : ClockworkView) (notes : NotesView) (opened : CoreState) (history : List EntryView) (entries : ℕ) → IsBetween clockwork notes opened history → 1 ≤ spare_of clockwork notes entries → IsReady clockwork notes
 spare-ready clockwork notes opened history entries h s =
     let room = some-spare clockwork.ready notes.ready entries s in

@@ -1,4 +1,4 @@
--- What holds of each outcome of a posting holds of what it gives.
+-- A fact that holds in each of the eight outcomes of a posting holds of its result.
 use Rattle.std.proofs.Common.{◌≡◌, ℕ, ◌+◌, ◌==◌, Bool, true, false, if◌then◌else◌, List, length, map, Option, Some, None, refl}
 use Rattle.std.specs.Option.{option_map_or}
 use Rattle.pack_defs.specs.Book.{BookView}
@@ -14,19 +14,19 @@ use Rattle.auction_core.specs.declared.posting.Reply.TheVariants.{Rejected, Alre
 use Rattle.auction_core.specs.State.{CoreState, NotedSpent}
 use Rattle.auction_core.specs.Take.{PostingView, turned_away, fault_of, judged, accepted, advanced, is_noted, noted_with, take}
 
--- a worker's receipt, as it is noted
+-- a worker's receipt as a pending one
 abbrev pub noted_as : ℕ → Receipt → NotedSpent
 noted_as w receipt = record { worker = w; receipt = receipt }
 
--- the state with one more Spent noted
+-- the state with one more pending receipt
 abbrev pub with_noted : CoreState → NotedSpent → CoreState
 with_noted state x = record state { noted = noted_with x state.noted }
 
--- what a Spent of the last worker shows
+-- all receipts, once the last worker's has come
 abbrev pub all_spent : CoreState → NotedSpent → List Receipt
 all_spent state x = map (λ n. n.receipt) (noted_with x state.noted)
 
--- a fact holds of each of the eight outcomes
+-- P holds in each of the eight outcomes
 pub record HoldsInEach (sc : Scenario) (book : BookView) (state : CoreState) (p : PostingView) (P : Reply × CoreState → Type 0) : Type 0 where
   pub turned : (reply : Reply) → turned_away sc state p.worker p.number ≡ Some reply → P (reply, state)
   pub rejected : (place : Place) → turned_away sc state p.worker p.number ≡ None → fault_of sc book state p ≡ Some place → P (Rejected place, state)
@@ -56,7 +56,7 @@ by_turned : (sc : Scenario) (book : BookView) (state : CoreState) (p : PostingVi
 by_turned sc book state p P h None e = by_fault sc book state p P h e (fault_of sc book state p) refl
 by_turned sc book state p P h (Some reply) e = h.turned reply e
 
--- a fact that holds of each outcome holds of what the posting gives
+-- a fact that holds in each outcome holds of the result of the posting
 pub take-cases : (sc : Scenario) (book : BookView) (state : CoreState) (p : PostingView) (P : Reply × CoreState → Type 0) → HoldsInEach sc book state p P → P (take sc book state p)
 unfolding take
 take-cases sc book state p P h = by_turned sc book state p P h (turned_away sc state p.worker p.number) refl

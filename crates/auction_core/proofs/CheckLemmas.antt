@@ -1,4 +1,4 @@
--- The start of a check, and each step on.
+-- The start of a transcript check, and each further step. For `follow` and `step_check`.
 use Rattle.std.proofs.Common.{◌≡◌, ◌<◌, ◌≤◌, ℕ, ◌+◌, Bool, true, false, if◌then◌else◌, List, [], ◌∷◌, ◌++◌, find, length, take, drop, get_or, Option, Some, None, option_map, is_none, is_some, refl, sym, ap, ap₂, subst, ◌∙◌, arith}
 use Rattle.std.specs.Option.{option_map_or}
 use Rattle.std.proofs.lemmas.List.{drop_more, take_more, map-append, length-drop, length-take-le, length-map}
@@ -36,7 +36,7 @@ pub task-start : (sc : Scenario) (book : BookView) (state : CoreState) → state
 unfolding task_of
 task-start sc book state e = rw e refl
 
--- how the start was shown where an auction opens
+-- how the start is settled when an auction opens
 opened : (sc : Scenario) (book : BookView) (order : Order) → (opening sc book order).start ≡ start_unasked sc book
 unfolding opening
 opened sc book order = go (start_unasked sc book)
@@ -49,7 +49,7 @@ opened sc book order = go (start_unasked sc book)
     go None = refl
     go (Some shown) = inner shown (shows_room shown)
 
--- in which order its rounds test
+-- the test order of the opening state
 pub opening-order : (sc : Scenario) (book : BookView) (order : Order) (state : CoreState) → state ≡ opening sc book order → state.order ≡ order
 opening-order sc book order state e = ap (λ z. z.order) e ∙ (opening-goes sc book order).order
 
@@ -82,12 +82,12 @@ empty-at sc book order state xs found e empty h = record {
   rest = h;
 }
 
--- the auction opens before its start test, where that needs a query
+-- if the start test needs a query, the auction opens before it
 pub unopened : (sc : Scenario) (book : BookView) (order : Order) → start_unasked sc book ≡ None → opening sc book order ≡ before_start sc order
 unfolding opening
 unopened sc book order e = rw e refl
 
--- a fit settled the start test
+-- a fit settles the start test
 pub fit-at : (sc : Scenario) (book : BookView) (order : Order) (state : CoreState) (delta : List (ℕ × ℕ)) (xs : List TranscriptStep) (found : Option NotShown) → state ≡ answered sc book (before_start sc order) (Fits delta)
     → steps_fault sc book 1 (after_start sc order (Fits delta)) (clock_tests sc order) xs ≡ found → IsAt sc book order (Fits delta) [] xs found state
 fit-at sc book order state delta xs found e h =
@@ -109,7 +109,7 @@ pub none-is : (o : Option Shown) → is_none o ≡ true → o ≡ None
 none-is None e = refl
 none-is (Some x) e = absurd cc
 
--- ---- a step on
+-- ---- one more step
 
 head-of : (x y : TranscriptStep) (xs ys : List TranscriptStep) → x ∷ xs ≡ y ∷ ys → (x ≡ y) × (xs ≡ ys)
 head-of x y xs ys e = (cc, cc)
@@ -125,7 +125,7 @@ pub shorter : (all : List TranscriptStep) (place : ℕ) (x : TranscriptStep) (xs
 shorter all place x xs e =
     let a = ap length e in let b = length-drop place all in omega (arith, a, b)
 
--- the step at the place, and the steps behind it
+-- the step at a place and the steps after it
 pub at-place : (all : List TranscriptStep) (place : ℕ) (x : TranscriptStep) (xs : List TranscriptStep) → drop place all ≡ x ∷ xs → (x ≡ get_or all place x) × (xs ≡ drop (place + 1) all)
 at-place all place x xs e = head-of x (get_or all place x) xs (drop (place + 1) all) (sym e ∙ drop_more all place x (shorter all place x xs e))
 
@@ -163,7 +163,7 @@ step-off sc sc' book book' order start all place x xs found state r es eb e h to
     explain r (step_told sc' book' state place x) (place + 1) found told
     (λ why q. c.some why (sym same ∙ q) ∙ ap (λ (k : ℕ). not_shown_at (k + 1) why) len)
 
--- ---- how the start is told
+-- ---- how the start is reported
 
 pub not-some : (o : Option Shown) → is_some o ≡ false → o ≡ None
 not-some None e = refl
@@ -193,7 +193,7 @@ fit-unasked sc book order state start delta e s h =
     let none : is_none (start_unasked sc book) ≡ false = ap is_none (sym (ap (λ z. z.start) e ∙ opened sc book order)) ∙ some-there state.start h in
     ap (λ (z : Shown). option_map NotValid (start_fault sc book z)) s ∙ ap (λ (b : Bool). option_map NotValid (unless b Kind (fit_fault book (start_task sc 1) delta))) none
 
--- where the start test needs a query, the auction opens before it
+-- if the start test needs a query, the auction opens before it
 before-is : (sc : Scenario) (book : BookView) (order : Order) (state : CoreState) → state ≡ opening sc book order → state.start ≡ None → (start_unasked sc book ≡ None) × (state ≡ before_start sc order)
 before-is sc book order state e h =
     let none : start_unasked sc book ≡ None = sym (ap (λ z. z.start) e ∙ opened sc book order) ∙ h in

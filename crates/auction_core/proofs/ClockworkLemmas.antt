@@ -1,4 +1,4 @@
--- An auction between two queries, as the program keeps it.
+-- A query session as the program keeps it: its number, its room and its next query. For `clockwork`.
 use Rattle.std.proofs.Common.{◌≡◌, ◌∙◌, ℕ, zero, suc, ◌+◌, ◌-◌, ◌*◌, ◌<◌, ◌≤◌, ◌^◌, true, false, not, ◌&&◌, cond, inl, inr, List, [], ◌∷◌, length, map, Option, Some, None, is_none, option_map, refl, sym, ap, subst, arith, nat_le, length-append}
 use Rattle.std.specs.Option.{option_map_or}
 use Rattle.std.proofs.lemmas.Bool.{and_parts, both_ways, cond-false, le-leb, leb-true}
@@ -48,13 +48,13 @@ tests-few sc order l =
     let most = tests-most (bidders_in_turn sc order) 1 (last_round sc) few in
     omega (arith, most, last)
 
--- so the number of the next query fits
+-- the number of the next query fits in 64 bits
 pub number-fits : (sc : Scenario) (order : Order) (number left : ℕ) → IsWithinLimits sc → number + left ≤ length (clock_tests sc order) + 2 → number + 1 < 2 ^ 64
 number-fits sc order number left l h = let few = tests-few sc order l in omega (arith, few, h)
 
--- ---- for how many steps there is room
+-- ---- room for steps
 
--- for one of every turn that is left, and for a verdict
+-- there is room for a step of every turn that is left, and for one verdict
 pub room-parts : (s : SetupView) (c : CourseView) → is_roomy s c ≡ true → (turns_left s c ≤ c.past.room) × (1 ≤ c.past.verdicts)
 room-parts s c h =
     let parts = and_parts (nat_le (turns_left s c) c.past.room) (nat_le 1 c.past.verdicts) h in
@@ -66,12 +66,12 @@ one-turn later stations turn room inside h = omega arith
 one-less : (later stations turn old new : ℕ) → turn < stations → later + (stations - turn) ≤ old → old ≤ new + 1 → later + (stations - (turn + 1)) ≤ new
 one-less later stations turn old new inside h more = omega arith
 
--- for that of a test that is due
+-- there is room for the step of a test that is due
 pub due-room : (s : SetupView) (c : CourseView) → IsDue s c → turns_left s c ≤ c.past.room → 1 ≤ c.past.room
 due-room s c due h =
     one-turn ((last_round s.scenario - c.round) * (length s.scenario.stations + 1)) (length s.scenario.stations) c.turn c.past.room due.turn h
 
--- and, once it is settled, for those of the turns behind it
+-- after a settled step there is still room for the steps of the remaining turns
 pub settled-room : (s : SetupView) (old new : CourseView) → IsDue s old → turns_left s old ≤ old.past.room → old.past.room ≤ new.past.room + 1 → new.turn ≡ old.turn + 1 → new.round ≡ old.round → turns_left s new ≤ new.past.room
 settled-room s old new due h more turn round =
     let stations = length s.scenario.stations in
@@ -115,13 +115,13 @@ started-start sc book state shown =
 
 -- ---- a query is settled
 
--- the start test
+-- settling the start test
 pub answered-start : (s : SetupView) (old new : CourseView) (number : ℕ) (shown : Shown) → old.start ≡ None → ((n : ℕ) → core_state s new n ≡ started s.scenario s.book (core_state s old n) shown) → core_state s new (number + 1) ≡ answered s.scenario s.book (core_state s old number) shown
 answered-start s old new number shown fresh state =
     let next : CoreState = core_state s old (number + 1) in
     state (number + 1) ∙ sym (ap (λ o. cond (is_none o) (started s.scenario s.book next shown) (past_first s.scenario s.book next shown (left_of s old))) fresh)
 
--- a test of the clock
+-- settling a test of the clock
 pub answered-test : (s : SetupView) (old mid new : CourseView) (number : ℕ) (shown : Shown) → is_none old.start ≡ false → IsSettled s shown old mid → ((n : ℕ) → core_state s new n ≡ go_on s.scenario s.book (left_of s mid) (core_state s mid n)) → core_state s new (number + 1) ≡ answered s.scenario s.book (core_state s old number) shown
 answered-test s old mid new number shown some is state =
     let t = next_test s old in
@@ -171,7 +171,7 @@ clockwork-test s old mid new number shown h some on settles is holds rest same s
       tests = omega (arith, left, few, one, tests);
     }
 
--- how the opening state comes about
+-- how the opening state arises
 pub opening-none : (sc : Scenario) (book : BookView) (order : Order) → start_unasked sc book ≡ None → before_start sc order ≡ opening sc book order
 unfolding opening
 opening-none sc book order e = sym (ap (λ o. option_map_or (started sc book (before_start sc order)) o (before_start sc order)) e)
@@ -199,12 +199,12 @@ clockwork-opening s c holds rest e =
       tests = omega (arith, same, few);
     }
 
--- ---- room doesn't matter
+-- ---- room does not matter
 
 abbrev pub with_room : CourseView → ℕ → ℕ → CourseView
 with_room c room verdicts = record c { past = record c.past { room = room; verdicts = verdicts } }
 
--- a room that was enough is enough where there is no less
+-- enough room stays enough if no room is lost
 pub roomy-kept : (s : SetupView) (c : CourseView) (room verdicts : ℕ) → c.past.room ≤ room → c.past.verdicts ≤ verdicts → is_roomy s c ≡ true → is_roomy s (with_room c room verdicts) ≡ true
 roomy-kept s c room verdicts more told h =
     let parts = room-parts s c h in

@@ -1,4 +1,4 @@
--- How a settled test moves what the program keeps of the clock.
+-- How a settled test changes a clock run. For `course::settle`.
 use Rattle.std.proofs.Common.{◌≡◌, ◌∙◌, ℕ, ◌+◌, ◌-◌, ◌<◌, ◌≤◌, Bool, true, false, not, cond, ◌||◌, eqb, inl, inr, List, [], ◌∷◌, ◌++◌, length, set, get_or, get_or-set_same, Option, sym, ap, subst, arith, length-append}
 use Rattle.std.proofs.lemmas.Bool.{false≢true, or_cases, or_right}
 use Rattle.pack_defs.specs.declared.order.Order.{Order}
@@ -27,9 +27,9 @@ use Rattle.auction_core.proofs.Steps.{after_steps-push}
 pub sound-auction : (s : SetupView) → IsSetupSound s → IsAuction s.scenario s.book
 sound-auction s h = let some = h.auction.limits.some_worker in record { stations = h.auction.limits.ascend; in_order = h.in_order; workers = omega (arith, some) }
 
--- ---- what a test's answer makes of the lists of a state
+-- ---- how an answer changes the lists of a state
 
--- a list is longer than it is without a number that it has
+-- removing a number that is in a list makes the list shorter
 length-without : (xs : List ℕ) (x : ℕ) → is_in xs x ≡ true → length (without xs x) + 1 ≤ length xs
 length-without [] x h = absurd (false≢true h)
 length-without (y ∷ ys) x h =
@@ -58,7 +58,7 @@ in-without (y ∷ ys) x s h =
       | false ↦ λ k. or_right (eqb y s) (is_in ys s) (in-without ys x s k)
     ]) h
 
--- who is still asked, frozen and on air
+-- the three lists together do not grow, and no station becomes active
 pub record Moved (old new : ClockState) : Type 0 where
   pub each : length new.frozen + length new.active + length new.on_air ≤ length old.frozen + length old.active + length old.on_air
   pub kept : (f : ℕ) → is_active new f ≡ true → is_active old f ≡ true
@@ -81,18 +81,18 @@ moved-by sc st t false active =
       kept = λ f h. in-without st.active t.station f h;
     }
 
--- one station more may go on air
+-- with an active station, the list of active stations is not empty
 pub some-active : (st : ClockState) (f : ℕ) → is_active st f ≡ true → 1 ≤ length st.active
 some-active st f active = let fewer = length-without st.active f active in omega (arith, fewer)
 
--- ---- the course once its next test is settled so
+-- ---- the clock run once its next test is settled
 
 -- the place of the next test's station
 pub record IsAt (s : SetupView) (c : CourseView) (i : ℕ) : Type 0 where
   pub within : i < length s.scenario.stations
   pub station : get_or (facilities s.scenario) i 0 ≡ (next_test s c).station
 
--- where the next test's station stands once the test is settled so
+-- the standing of the next test's station once the test is settled
 abbrev pub next_standing : SetupView → CourseView → Shown → Standing
 next_standing s c shown = answered_standing s.scenario (next_test s c) (shows_room shown)
 
@@ -106,7 +106,7 @@ next_course s c shown i past = record {
   turn = c.turn + 1;
 }
 
--- the step of the next test stands behind the others
+-- the step of the next test is appended
 abbrev pub IsStepMore : SetupView → CourseView → Shown → PastView → Type 0
 IsStepMore s c shown past = past.steps ≡ c.past.steps ++ step_of (next_test s c) shown ∷ []
 
@@ -122,11 +122,11 @@ next-is-clock s c shown i past l h due at more =
     subst (λ z. IsClockOf s.scenario z (next_course s c shown i past).clock) (sym (next-clock s c shown i past more))
     (answer-clock i (next_test s c) (shows_room shown) l.auction.limits.ascend h.clock at.within at.station due.active)
 
--- the auction's state is settled so, and goes on to the tests that are left
+-- a state made of these fields
 abbrev made : (order : Order) (start : Option Shown) (steps : List Step) (number : ℕ) (left : List ClockTest) (clock : ClockState) (entries : List (ℕ × ℕ)) → CoreState
 made order start steps number left clock entries = record { order = order; start = start; clock = clock; left = left; map = entries; steps = steps; noted = []; number = number }
 
--- the station that was tested is on air as its standing says
+-- the tested station is on air if and only if its standing says so
 next-on-air : (s : SetupView) (c : CourseView) (shown : Shown) (i : ℕ) (past : PastView) → IsSetupSound s → IsCourse s c → IsDue s c → IsAt s c i → IsStepMore s c shown past →
     is_on_air (after_answer s.scenario (clock_of s c) (next_test s c) (shows_room shown)) (next_test s c).station ≡ stands_on_air (next_standing s c shown)
 next-on-air s c shown i past l h due at more =

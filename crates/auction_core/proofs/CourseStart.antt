@@ -1,4 +1,4 @@
--- The course before the start test, and once that test is settled.
+-- The clock run before the start test, and once that test is settled. For `course::begin`.
 use Rattle.std.specs.Prelude.{find, option_map}
 use Rattle.std.proofs.Common.{MatchOption, ◌≡◌, ◌∙◌, ℕ, ◌+◌, ◌≤◌, Bool, true, false, not, cond, List, [], ◌∷◌, length, filter, get_or, Option, Some, None, refl, sym, ap, ap₂, subst, arith}
 use Rattle.std.proofs.lemmas.Bool.{cond-false, cond-true, false≢true, not-true}
@@ -30,7 +30,7 @@ use Rattle.auction_core.proofs.Sets.{within-fit}
 
 -- ---- before the start test
 
--- those that pass and those that don't are not more than all
+-- the elements that satisfy p and those that do not are at most all
 both-kinds : (p : ℕ → Bool) (xs : List ℕ) → length (filter (λ x. not (p x)) xs) + length (filter p xs) ≤ length xs
 both-kinds p [] = omega arith
 both-kinds p (x ∷ xs) =
@@ -40,11 +40,11 @@ both-kinds p (x ∷ xs) =
       | false ↦ omega (arith, rest)
     ]
 
--- the course before the start test
+-- the clock run before the start test
 abbrev pub first_course : Scenario → ClockView → PastView → CourseView
 first_course sc clock past = record { start = None; clock = clock; map = record { stations = facilities sc; entries = [] }; past = past; round = 1; turn = 0 }
 
--- what is kept before the first test
+-- the test history before the first test
 pub record IsFirstPast (s : SetupView) (past : PastView) : Type 0 where
   pub parts : IsPartsOf s.scenario s.book (opening_state s.scenario) past.parts
   pub on_air : past.on_air ≡ length (opening_state s.scenario).on_air
@@ -89,11 +89,11 @@ first-state s standings past none =
 
 -- ---- once the start test is settled
 
--- before a step the clock stands at its opening
+-- before any step the clock is at its opening
 idle-clock : (s : SetupView) (c : CourseView) → IsIdle c → clock_of s c ≡ opening_state s.scenario
 idle-clock s c h = ap (λ xs. (after_steps s.scenario (after_start s.scenario s.order (shown_start c.start)) xs).clock) h.steps
 
--- what shows no room gives the map nothing
+-- a start that does not fit puts nothing into the map
 gives-none : (shown : Shown) → shows_room shown ≡ false → start_delta shown ≡ []
 gives-none Empty h = refl
 gives-none (Fits delta) h = absurd (false≢true (sym h))
@@ -103,7 +103,7 @@ gives-none (Refuted w how) h = refl
 gives-none (Outside proof) h = refl
 gives-none (Undecided receipts) h = refl
 
--- what is given by the start are channels of the scenario's stations
+-- the start gives channels to the scenario's stations only
 pub start-within : (sc : Scenario) (book : BookView) (shown : Shown) → IsStartShown sc book shown → GivesWithin sc (start_delta shown)
 start-within sc book shown h =
     let bare : Option ℕ = find (λ s. is_empty (domain_of book s)) (start_set sc) in
@@ -127,7 +127,7 @@ start-within sc book shown h =
     by-query (Outside proof) k = absurd k
     by-query (Undecided receipts) k = λ z there. absurd (false≢true there)
 
--- the course once the start test is settled so
+-- the clock run once the start test is settled
 abbrev pub begun : CourseView → Shown → CourseView
 begun c shown = record c { start = Some shown; map = record { stations = c.map.stations; entries = overlaid c.map.entries (start_delta shown) } }
 
@@ -155,7 +155,7 @@ begun-rule s c shown l fresh h is room =
     let walked = first-walk s.scenario s.book shown (core_state s c 0) (sound-auction s l) bare is room in
     record {
       before = [];
-      parts = begun-left s c shown h room;
+      all_tests = begun-left s c shown h room;
       walked = walked-same s shown (record (core_state s c 0) { start = Some shown; map = overlaid c.map.entries (start_delta shown) }) (core_state s (begun c shown) 0) [] refl (sym (begun-clock s c shown h)) refl refl walked;
     }
 

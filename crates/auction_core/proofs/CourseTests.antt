@@ -1,4 +1,4 @@
--- Which tests are left, and how the program goes on past those that need no query.
+-- Which tests are left, and how the program skips those that need no query. For `course::pass` and `course::go_on`.
 use Rattle.std.proofs.Common.{◌≡◌, ◌∙◌, ℕ, suc, ◌+◌, ◌-◌, ◌*◌, ◌<◌, ◌≤◌, Bool, true, false, not, cond, inl, inr, List, [], ◌∷◌, ◌++◌, length, map, filter, drop, get_or, Option, Some, None, MatchOption, refl, sym, ap, ap₂, subst, arith, append_assoc}
 use Rattle.std.specs.Prelude.{option_map}
 use Rattle.std.specs.Option.{option_map_or}
@@ -26,7 +26,7 @@ use Rattle.auction_core.proofs.Walk.{off-air, walk-skip, walk-step}
 
 -- ---- the tests that are left
 
--- a station less
+-- one station fewer
 pub left-here : (s : SetupView) (r i : ℕ) → i < length s.scenario.stations → tests_left s r i ≡ cond (not (declines s.scenario (get_or (turns s.scenario s.order) i 0) 0)) (test_at s r i ∷ tests_left s r (i + 1)) (tests_left s r (i + 1))
 left-here s r i h =
     let sc = s.scenario in
@@ -41,11 +41,11 @@ left-here s r i h =
     split true f xs r rest = refl
     split false f xs r rest = refl
 
--- no turn is left at a round's end
+-- no turn is left at the end of a round
 none-left : (s : SetupView) → drop (length s.scenario.stations) (turns s.scenario s.order) ≡ []
 none-left s = drop_all (length s.scenario.stations) (turns s.scenario s.order) (omega (arith, turns-length s.scenario s.order, length-map s.scenario.stations (λ (x : Station). x.id)))
 
--- a round's end is the next one's beginning
+-- the end of a round is the beginning of the next
 left-round : (s : SetupView) (r k : ℕ) → last_round s.scenario - r ≡ suc k → tests_left s r (length s.scenario.stations) ≡ tests_left s (r + 1) 0
 left-round s r k e =
     let sc = s.scenario in
@@ -54,7 +54,7 @@ left-round s r k e =
     ∙ (ap (tests_of (bidders_in_turn sc s.order) (r + 1)) e
     ∙ ap (λ n. map (λ f. (let t : ClockTest = record { round = r + 1; station = f } in t)) (bidders_in_turn sc s.order) ++ tests_of (bidders_in_turn sc s.order) (r + 1 + 1) n) (sym rest))
 
--- none is left at the end of the last round
+-- no test is left at the end of the last round
 left-over : (s : SetupView) → tests_left s (last_round s.scenario) (length s.scenario.stations) ≡ []
 left-over s =
     let sc = s.scenario in
@@ -62,7 +62,7 @@ left-over s =
     ap (λ z. map (λ f. (let t : ClockTest = record { round = last_round sc; station = f } in t)) (filter (λ f. not (declines sc f 0)) z) ++ tests_of (bidders_in_turn sc s.order) (last_round sc + 1) (last_round sc - last_round sc)) (none-left s)
     ∙ ap (tests_of (bidders_in_turn sc s.order) (last_round sc + 1)) zero_left
 
--- all are left at the beginning
+-- all tests are left at the beginning
 pub left-all : (s : SetupView) → tests_left s 1 0 ≡ clock_tests s.scenario s.order
 left-all s =
     let sc = s.scenario in
@@ -71,21 +71,21 @@ left-all s =
     ap (λ n. map (λ f. (let t : ClockTest = record { round = 1; station = f } in t)) (bidders_in_turn sc s.order) ++ tests_of (bidders_in_turn sc s.order) 2 n) less
     ∙ ap (tests_of (bidders_in_turn sc s.order) 1) (sym rounds)
 
--- where the clock runs, those from the next turn on
+-- once the clock runs, the tests from the next turn on are left
 pub left-runs : (s : SetupView) (c : CourseView) → start_fits c.start ≡ true → left_of s c ≡ tests_left s c.round c.turn
 left-runs s c running = cond-true (start_fits c.start) _ _ running
 
--- where the next test's station is active, its test is the first that is left
+-- if the next turn's station is active, its test is the first one left
 pub due-left : (s : SetupView) (c : CourseView) → start_fits c.start ≡ true → IsCourse s c → IsDue s c → left_of s c ≡ next_test s c ∷ tests_left s c.round (c.turn + 1)
 due-left s c running h due =
     let bids : not (declines s.scenario (next_test s c).station 0) ≡ true = ap not (h.bid (next_test s c).station due.active) in
     left-runs s c running ∙ (left-here s c.round c.turn due.turn ∙ cond-true _ _ _ bids)
 
--- and the tests behind it are left once it is settled
+-- once that test is settled, the tests after it are left
 pub next-left : (s : SetupView) (c : CourseView) (shown : Shown) (i : ℕ) (past : PastView) → start_fits c.start ≡ true → IsCourse s c → IsDue s c → left_of s c ≡ next_test s c ∷ left_of s (next_course s c shown i past)
 next-left s c shown i past running h due = due-left s c running h due ∙ ap (λ z. next_test s c ∷ z) (sym (left-runs s (next_course s c shown i past) running))
 
--- none is left where the clock is over
+-- no test is left if the clock is over
 pub over-left : (s : SetupView) (c : CourseView) → start_fits c.start ≡ true → IsOver s c → left_of s c ≡ []
 over-left s c running over = left-runs s c running ∙ (ap₂ (tests_left s) over.1 over.0 ∙ left-over s)
 
@@ -96,9 +96,9 @@ over-empty s c running over = ap is_empty (over-left s c running over)
 pub due-some : (s : SetupView) (c : CourseView) → start_fits c.start ≡ true → IsCourse s c → IsDue s c → is_empty (left_of s c) ≡ false
 due-some s c running h due = ap is_empty (due-left s c running h due)
 
--- ---- the course goes by the rule
+-- ---- the clock run obeys the rule
 
--- what was walked is the same, whatever is left and whichever query stands
+-- the invariant does not depend on the tests left or the current query
 pub walked-same : (s : SetupView) (start : Shown) (a b : CoreState) (before : List ClockTest) → a.order ≡ b.order → a.clock ≡ b.clock → a.map ≡ b.map → a.steps ≡ b.steps → IsWalked s.scenario s.book start a before → IsWalked s.scenario s.book start b before
 walked-same s start a b before o c m x w =
     let at : CoreState = record b { order = a.order; clock = a.clock; map = a.map; steps = a.steps } in
@@ -106,13 +106,13 @@ walked-same s start a b before o c m x w =
     let same : at ≡ b = λ i. record b { order = o i; clock = c i; map = m i; steps = x i } in
     subst (λ z. IsWalked s.scenario s.book start z before) same first
 
--- the station of the next test isn't on air yet
+-- the station of the next test is not on air yet
 pub due-off : (s : SetupView) (c : CourseView) → start_fits c.start ≡ true → IsSetupSound s → IsCourse s c → IsDue s c → is_on_air (clock_of s c) (next_test s c).station ≡ false
 due-off s c running l h due =
     let g = h.rule running in
     (off-air s.scenario s.book _ g.before (clock_of s c) (sound-auction s l) g.walked.clock (next_test s c).station due.active).1
 
--- the step of the next test
+-- the step of the next test is properly settled
 abbrev pub IsNextShown : SetupView → CourseView → Shown → Type 0
 IsNextShown s c shown = IsStepShown s.scenario s.book (core_state s c 0) (step_of (next_test s c) shown)
 
@@ -122,12 +122,12 @@ next-rule s c shown i past l running h due at more is =
     let t = next_test s c in
     let new = next_course s c shown i past in
     let left = next-left s c shown i past running h due in
-    let parts : clock_tests s.scenario s.order ≡ g.before ++ t ∷ left_of s new = sym g.parts ∙ ap (λ z. g.before ++ z) left in
-    let moved = walk-step s.scenario s.book (shown_start c.start) (core_state s c 0) g.before (left_of s new) t shown (sound-auction s l) g.walked parts due.active is in
+    let all : clock_tests s.scenario s.order ≡ g.before ++ t ∷ left_of s new = sym g.all_tests ∙ ap (λ z. g.before ++ z) left in
+    let moved = walk-step s.scenario s.book (shown_start c.start) (core_state s c 0) g.before (left_of s new) t shown (sound-auction s l) g.walked all due.active is in
     let state = next-state s c shown i past 0 l h due at more in
     record {
       before = g.before ++ t ∷ [];
-      parts = append_assoc g.before (t ∷ []) (left_of s new) ∙ sym parts;
+      all_tests = append_assoc g.before (t ∷ []) (left_of s new) ∙ sym all;
       walked = walked-same s (shown_start c.start) (settled s.scenario (core_state s c 0) t shown) (core_state s new 0) (g.before ++ t ∷ []) refl (sym (ap (λ (z : CoreState). z.clock) state)) (sym (ap (λ (z : CoreState). z.map) state)) (sym (ap (λ (z : CoreState). z.steps) state)) moved;
     }
 
@@ -155,7 +155,7 @@ next-holds s c shown i past l running h due at j is =
       rule = λ _. next-rule s c shown i past l running h due at j.steps is;
     }
 
--- one that is equal to the course once its next test is settled so was settled so
+-- a clock run that equals `old` with its next test settled satisfies `IsSettled`
 pub is-settled : (s : SetupView) (old new : CourseView) (shown : Shown) (i : ℕ) (past : PastView) → IsSetupSound s → start_fits old.start ≡ true → IsCourse s old → IsDue s old → IsAt s old i → HasNoted s old shown i past → IsNextShown s old shown → new ≡ next_course s old shown i past → IsSettled s shown old new
 is-settled s old new shown i past l running h due at j is same = subst (IsSettled s shown old) (sym same) (record {
   holds = next-holds s old shown i past l running h due at j is;
@@ -165,7 +165,7 @@ is-settled s old new shown i past l running h due at j is same = subst (IsSettle
 
 -- ---- going on
 
--- going on reads the tests that it is given, not those of the state
+-- `go_on` reads the tests that it is given, not those of the state
 pub go_on-left : (sc : Scenario) (book : BookView) (ts l : List ClockTest) (state : CoreState) → go_on sc book ts (record state { left = l }) ≡ go_on sc book ts state
 go_on-left sc book [] l state = refl
 go_on-left sc book (t ∷ ts) l state =
@@ -178,28 +178,28 @@ go_on-left sc book (t ∷ ts) l state =
       | false ↦ go_on-left sc book ts l state
     ]
 
--- past a test of a station that isn't active
+-- a test of a station that is not active is skipped
 go_on-idle : (sc : Scenario) (book : BookView) (t : ClockTest) (ts : List ClockTest) (state : CoreState) → is_active state.clock t.station ≡ false → go_on sc book (t ∷ ts) state ≡ go_on sc book ts state
 go_on-idle sc book t ts state idle =
     ap (λ b. option_map_or (go_on sc book ts) (cond b (option_map (settled sc state t) (settled_unasked sc book state t)) (Some state)) (record state { left = t ∷ ts })) idle
 
--- past a test that is settled without a query
+-- a test that is settled without a query is passed
 go_on-unasked : (sc : Scenario) (book : BookView) (t : ClockTest) (ts : List ClockTest) (state : CoreState) (u : Shown) → is_active state.clock t.station ≡ true → settled_unasked sc book state t ≡ Some u → go_on sc book (t ∷ ts) state ≡ go_on sc book ts (settled sc state t u)
 go_on-unasked sc book t ts state u active is =
     ap (λ b. option_map_or (go_on sc book ts) (cond b (option_map (settled sc state t) (settled_unasked sc book state t)) (Some state)) (record state { left = t ∷ ts })) active
     ∙ ap (λ o. option_map_or (go_on sc book ts) (option_map (settled sc state t) o) (record state { left = t ∷ ts })) is
 
--- not past one that needs a query
+-- a test that needs a query stops `go_on`
 go_on-query : (sc : Scenario) (book : BookView) (t : ClockTest) (ts : List ClockTest) (state : CoreState) → is_active state.clock t.station ≡ true → settled_unasked sc book state t ≡ None → go_on sc book (t ∷ ts) state ≡ record state { left = t ∷ ts }
 go_on-query sc book t ts state active none =
     ap (λ b. option_map_or (go_on sc book ts) (cond b (option_map (settled sc state t) (settled_unasked sc book state t)) (Some state)) (record state { left = t ∷ ts })) active
     ∙ ap (λ o. option_map_or (go_on sc book ts) (option_map (settled sc state t) o) (record state { left = t ∷ ts })) none
 
--- where the program goes on leads to where it stands
+-- going on from `old` and from `new` leads to the same state
 abbrev pub Leads : SetupView → CourseView → CourseView → Type 0
 Leads s old new = (n : ℕ) → go_on s.scenario s.book (left_of s new) (core_state s new n) ≡ go_on s.scenario s.book (left_of s old) (core_state s old n)
 
--- the next turn, passed over
+-- the next turn, skipped
 abbrev pub passed : CourseView → CourseView
 passed c = record c { turn = c.turn + 1 }
 
@@ -207,14 +207,14 @@ passed c = record c { turn = c.turn + 1 }
 abbrev pub round_on : CourseView → CourseView
 round_on c = record c { round = c.round + 1; turn = 0 }
 
--- what is left behind a turn that is passed over
+-- what is left after a skipped turn
 passed-left : (s : SetupView) (c : CourseView) → start_fits c.start ≡ true → c.turn < length s.scenario.stations →
     left_of s c ≡ cond (not (declines s.scenario (next_test s c).station 0)) (next_test s c ∷ left_of s (passed c)) (left_of s (passed c))
 passed-left s c running inside =
     left-runs s c running ∙ (left-here s c.round c.turn inside
     ∙ ap (λ z. cond (not (declines s.scenario (next_test s c).station 0)) (next_test s c ∷ z) z) (sym (left-runs s (passed c) running)))
 
--- past the turn of a station that isn't active
+-- skipping the turn of a station that is not active leads to the same state
 pub leads-idle : (s : SetupView) (c : CourseView) → start_fits c.start ≡ true → c.turn < length s.scenario.stations → is_active (clock_of s c) (next_test s c).station ≡ false → Leads s c (passed c)
 leads-idle s c running inside off n =
     let t = next_test s c in
@@ -226,7 +226,7 @@ leads-idle s c running inside off n =
     go_on-left s.scenario s.book rest rest (core_state s c n)
     ∙ (sym past ∙ ap (λ l. go_on s.scenario s.book l (core_state s c n)) (sym (passed-left s c running inside)))
 
--- the same course, but for where the next test comes
+-- the same clock run with another next turn
 moved-on : (s : SetupView) (c : CourseView) (round turn : ℕ) → start_fits c.start ≡ true → 1 ≤ round → round ≤ last_round s.scenario → turn ≤ length s.scenario.stations → IsCourse s c → GoesByRule s (record c { round = round; turn = turn }) → IsCourse s (record c { round = round; turn = turn })
 moved-on s c round turn running first last within h g = record {
   sound = h.sound;
@@ -251,18 +251,18 @@ passed-holds s c running inside off h =
     let go : (b : Bool) → left_of s c ≡ cond b (t ∷ rest) rest → GoesByRule s (passed c) = λ b. elim b as (λ b. left_of s c ≡ cond b (t ∷ rest) rest → GoesByRule s (passed c)) [
       | true ↦ λ e. record {
         before = g.before ++ t ∷ [];
-        parts = append_assoc g.before (t ∷ []) rest ∙ (ap (λ z. g.before ++ z) (sym e) ∙ g.parts);
+        all_tests = append_assoc g.before (t ∷ []) rest ∙ (ap (λ z. g.before ++ z) (sym e) ∙ g.all_tests);
         walked = walked-same s (shown_start c.start) (core_state s c 0) (core_state s (passed c) 0) (g.before ++ t ∷ []) refl refl refl refl (walk-skip s.scenario s.book (shown_start c.start) (core_state s c 0) g.before t g.walked off);
       }
       | false ↦ λ e. record {
         before = g.before;
-        parts = ap (λ z. g.before ++ z) (sym e) ∙ g.parts;
+        all_tests = ap (λ z. g.before ++ z) (sym e) ∙ g.all_tests;
         walked = walked-same s (shown_start c.start) (core_state s c 0) (core_state s (passed c) 0) g.before refl refl refl refl g.walked;
       }
     ] in
     moved-on s c c.round (c.turn + 1) running h.begun h.round (omega (arith, inside)) h (go (not (declines s.scenario t.station 0)) left)
 
--- from the end of a round to the next one
+-- the end of a round leaves the same tests as the beginning of the next
 round-left : (s : SetupView) (c : CourseView) → c.turn ≡ length s.scenario.stations → c.round < last_round s.scenario → left_of s (round_on c) ≡ left_of s c
 round-left s c end less =
     let more : last_round s.scenario - c.round ≡ suc (last_round s.scenario - c.round - 1) = omega arith in
@@ -277,11 +277,11 @@ round-holds s c running end less h =
     let g = h.rule running in
     moved-on s c (c.round + 1) 0 running (omega arith) (omega (arith, less)) (omega arith) h (record {
       before = g.before;
-      parts = ap (λ z. g.before ++ z) (round-left s c end less) ∙ g.parts;
+      all_tests = ap (λ z. g.before ++ z) (round-left s c end less) ∙ g.all_tests;
       walked = walked-same s (shown_start c.start) (core_state s c 0) (core_state s (round_on c) 0) g.before refl refl refl refl g.walked;
     })
 
--- past a test that is settled without a query
+-- a test that is settled without a query leads to the same state
 pub leads-unasked : (s : SetupView) (old new : CourseView) (u : Shown) → IsDue s old → unasked_of s old ≡ Some u → IsSettled s u old new → Leads s old new
 leads-unasked s old new u due is settled n =
     let t = next_test s old in
@@ -290,7 +290,7 @@ leads-unasked s old new u due is settled n =
     ∙ (sym (go_on-unasked s.scenario s.book t (left_of s new) (core_state s old n) u due.active is)
     ∙ ap (λ l. go_on s.scenario s.book l (core_state s old n)) (sym settled.left)))
 
--- at rest there is nothing to go past
+-- at rest nothing is skipped
 pub at-rest : (s : SetupView) (c : CourseView) (n : ℕ) → start_fits c.start ≡ true → IsCourse s c → IsAtRest s c → go_on s.scenario s.book (left_of s c) (core_state s c n) ≡ core_state s c n
 at-rest s c n running h (inl over) =
     let none = over-left s c running over in
@@ -303,7 +303,7 @@ at-rest s c n running h (inr query) =
     ∙ (go_on-query s.scenario s.book (next_test s c) (tests_left s c.round (c.turn + 1)) (core_state s c n) query.0.active query.1
     ∙ ap made_of (sym first))
 
--- what settles the next test without a query shows its step
+-- what settles the next test without a query settles its step properly
 pub unasked-shown : (s : SetupView) (c : CourseView) (u : Shown) → unasked_of s c ≡ Some u → IsNextShown s c u
 unasked-shown s c u e = subst (λ o. MatchOption o (IsSettledBy s.scenario s.book (test_task s.scenario s.book (core_state s c 0) (next_test s c)) u) (λ unasked. u ≡ unasked)) (sym e) refl
 
@@ -315,17 +315,17 @@ pub by-round : (s : SetupView) (c new : CourseView) (b : Bool) (P : CourseView �
 by-round s c new true P on off next over = subst P (sym (next refl).1) (on (next refl).0)
 by-round s c new false P on off next over = subst P (sym (over refl).1) (off (over refl).0)
 
--- a turn less
+-- one turn fewer
 pub passed-nearer : (m stations turn : ℕ) → turn < stations → m + (stations - (turn + 1)) < m + (stations - turn)
 passed-nearer m stations turn inside = omega (arith, inside)
 
--- a round less
+-- one round fewer
 pub round-nearer : (last round stations turn : ℕ) → round < last → (last - (round + 1)) * (stations + 1) + (stations - 0) < (last - round) * (stations + 1) + (stations - turn)
 round-nearer last round stations turn less =
     let more : last - round ≡ suc (last - (round + 1)) = omega (arith, less) in
     let one : (last - round) * (stations + 1) ≡ (last - (round + 1)) * (stations + 1) + (stations + 1) = ap (λ n. n * (stations + 1)) more ∙ suc-mul (last - (round + 1)) (stations + 1) in
     omega (arith, one)
 
--- a turn that isn't the last one's end is within the round
+-- a turn that is not the end of the round is within the round
 pub turn-inside : (turn stations : ℕ) → turn ≤ stations → (turn ≡ stations → ⊥) → turn < stations
 turn-inside turn stations le other = omega (arith, le, other)

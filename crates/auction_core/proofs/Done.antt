@@ -1,4 +1,4 @@
--- The map of a backed record that was carried through is clean, and of the stations on air.
+-- The map of a backed record that was carried through is clean, with exactly the stations on air. For `laws`.
 use Rattle.std.proofs.Common.{◌≡◌, Bool, true, false, not, ◌==◌, ◌&&◌, ◌||◌, if◌then◌else◌, List, [], ◌∷◌, ◌++◌, map, Some, None, Contains, refl, sym, ap, ◌∙◌, subst, ⊎_elim, inl, inr, eq-eqb}
 use Rattle.std.specs.List.{cons_option}
 use Rattle.std.proofs.lemmas.List.Folds.{list_any-append}
@@ -27,7 +27,7 @@ use Rattle.auction_core.proofs.Kept.{IsUnderWay}
 use Rattle.auction_core.proofs.Sets.{fits-stand-first, fits-stand-same, fits-stand-step}
 use Rattle.auction_core.proofs.Starts.{start-map}
 
--- ---- which of the steps' tests are the undecided ones
+-- ---- which tests of the steps are undecided
 
 pub asked-apart : (sc : Scenario) (book : BookView) (U ts : List ClockTest) (st : ClockState) → TestsApart ts → TestsApart (asked_from sc book U ts st)
 asked-apart sc book U [] st apart = tt
@@ -55,11 +55,11 @@ only-rest true true d e = cc
 only-rest true false d e = refl
 only-rest false c d e = refl
 
--- the steps' tests that are among these are those that are shown undecided
+-- a step's test is listed if and only if the step is undecided
 abbrev pub AreListed : List ClockTest → List Step → Type 0
 AreListed U xs = (x : Step) → Contains xs x → is_listed U (test_of x) ≡ is_undecided x.shown
 
--- where no test comes twice, a step's test is listed as undecided exactly where the step is shown so
+-- if no test occurs twice, a step's test is listed as undecided if and only if the step is
 pub listed-shown : (xs : List Step) → TestsApart (map test_of xs) → AreListed (undecided_of xs) xs
 listed-shown [] apart x c = absurd (Contains-nil x c)
 listed-shown (y ∷ ys) apart x c =
@@ -86,7 +86,7 @@ and_true : (b : Bool) → (b && true) ≡ b
 and_true true = refl
 and_true false = refl
 
--- a step that is shown as it has to be moves the clock as the rule does
+-- a properly settled step moves the clock as the rule does
 pub step-moves : (sc : Scenario) (book : BookView) (U : List ClockTest) (state : CoreState) (x : Step) → IsReady sc book state x.station → FitsStand sc book state → is_active state.clock x.station ≡ true → IsStepShown sc book state x → is_listed U (test_of x) ≡ is_undecided x.shown →
     (settled sc state (test_of x) x.shown).clock ≡ after_test sc book U state.clock (test_of x)
 step-moves sc book U state x r f active h l =
@@ -98,13 +98,12 @@ step-moves sc book U state x r f active h l =
     (cases_Bool (is_undecided x.shown)) in
     sym (cond-true (is_active state.clock t.station) (after_answer sc state.clock t (has_room sc book U state.clock t)) state.clock active ∙ ap (after_answer sc state.clock t) answer)
 
--- what some steps leave is a clean map of the stations on air in this state of the clock, which is theirs, and what stands of
--- earlier fits
+-- these steps lead to a clean map of the stations on air, in this state of the clock, and earlier fits still work
 pub record Arrives (sc : Scenario) (book : BookView) (clock : ClockState) (state : CoreState) : Type 0 where
   pub of : IsOf sc book clock state.map
   pub fits : FitsStand sc book state
 
--- where the steps left are the tests left that the rule asks, what they leave is a clean map of the stations on air then
+-- if the steps left are the tests left that the rule asks, they lead to a clean map of the stations on air
 walk : (sc : Scenario) (book : BookView) (U ts done : List ClockTest) (state : CoreState) (xs : List Step) → IsAuction sc book → state.clock ≡ after_tests sc book U done (opening_state sc) → IsOf sc book state.clock state.map → FitsStand sc book state →
     map test_of xs ≡ asked_from sc book U ts state.clock → AreShown sc book state xs → AreListed U xs →
     Arrives sc book (after_tests sc book U ts state.clock) (after_steps sc state xs)
@@ -145,7 +144,7 @@ apart-first [] later apart = tt
 apart-first (t ∷ first) later apart =
     (false_from_ne_true (is_listed first t) (λ yes. both_ways (is_listed (first ++ later) t) apart.0 (list_any-append (λ u. same_test u t) first later ∙ or_left (is_listed first t) (is_listed later t) yes)), apart-first first later apart.1)
 
--- what stands of earlier fits follows from the steps
+-- earlier fits still work, given the steps
 pub under-way-fits : (sc : Scenario) (book : BookView) (start : Shown) (state : CoreState) → IsAuction sc book → IsStartShown sc book start → shows_room start ≡ true → IsUnderWay sc book start state → FitsStand sc book state
 under-way-fits sc book start state a k r u =
     let U : List ClockTest = undecided_of state.steps in
@@ -166,7 +165,7 @@ done-room (Refuted w how) e = cc
 done-room (Outside proof) e = cc
 done-room (Undecided receipts) e = cc
 
--- the map of a record that is backed and Done
+-- the map of a record that is backed and `Done`
 pub done-map : (sc : Scenario) (book : BookView) (order : Order) (rec : Record) → IsAuction sc book → IsBacked sc book order rec → rec.ending ≡ Done → IsOf sc book (clock_rule sc book order (undecided_of rec.steps)) rec.map
 unfolding clock_rule asked_tests
 done-map sc book order rec a b done =

@@ -1,16 +1,16 @@
--- Places that are emptied one after another.
+-- Slots that are emptied one after another. For `notes`.
 use Rattle.std.proofs.Common.{◌≡◌, ℕ, zero, suc, ◌+◌, ◌<◌, List, [], ◌∷◌, ◌++◌, map, length, take, Option, Some, None, get_or, refl, sym, ap, ◌∙◌, arith}
 use Rattle.std.specs.Prelude.{slice_set}
 use Rattle.cert_types.specs.declared.answer.Receipt.{Receipt}
 use Rattle.auction_core.specs.Notes.{notes_from}
 
--- the first so many places are empty
+-- the slots, with the first n of them emptied
 abbrev pub emptied : ℕ → List (Option Receipt) → List (Option Receipt)
 emptied zero xs = xs
 emptied (suc i) [] = []
 emptied (suc i) (x ∷ xs) = None ∷ emptied i xs
 
--- the receipts of the first so many places
+-- the receipts of the first n slots
 abbrev pub first_receipts : ℕ → List (Option Receipt) → List Receipt
 first_receipts i xs = map (λ n. n.receipt) (notes_from 0 (take i xs))
 
@@ -64,7 +64,7 @@ passed-one i xs d e =
     let next : i + 1 ≡ suc i = omega arith in
     ap (λ (k : ℕ). first_receipts k xs) next ∙ ap (map (λ n. n.receipt)) (passed-suc 0 i xs d e)
 
--- the place that is emptied next
+-- the next slot is emptied
 pub emptied-next : (i : ℕ) (xs now : List (Option Receipt)) (after : Option Receipt) → i < length xs → now ≡ emptied i xs → after ≡ None → slice_set now i after ≡ emptied (i + 1) xs
 emptied-next i xs now after h e n =
     ap (λ ys. slice_set ys i after) e ∙ (ap (λ (o : Option Receipt). slice_set (emptied i xs) i o) n ∙ emptied-set i xs h)

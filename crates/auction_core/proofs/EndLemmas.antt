@@ -1,4 +1,4 @@
--- What the check of a transcript's start and steps comes to.
+-- What the check of a transcript's start and steps reports. For `follow`.
 use Rattle.std.proofs.Common.{◌≡◌, ℕ, ◌+◌, Bool, true, false, if◌then◌else◌, List, [], length, Option, Some, None, option_map, refl, sym, ap, ap₂, subst, ◌∙◌, inl, inr}
 use Rattle.std.proofs.lemmas.List.{length-map}
 use Rattle.pack_defs.specs.declared.scenario.Scenario.{Scenario}
@@ -33,7 +33,7 @@ no-fault why e = cc
 why-is : (a b : ShownWhy) → Some a ≡ Some b → a ≡ b
 why-is a b e = cc
 
--- the start is at fault
+-- the start is invalid
 pub start-err : (sc : Scenario) (book : BookView) (t : Transcript) (r : ResumeErr) → Explains r (option_map (λ why. record { step = 0; why = why }) (option_map NotValid (start_fault sc book t.start))) → Explains r (not_shown sc book t)
 unfolding not_shown
 start-err sc book t r h = explain r (option_map NotValid (start_fault sc book t.start)) 0 (not_shown sc book t) h (go (start_fault sc book t.start))
@@ -66,7 +66,7 @@ all-shown sc book t state e a ended count =
     let c = (end-checked sc book t.order t.start (steps_in t.steps) (found_in sc book t) state a).all ended (count ∙ sym (same-count t)) in
     record { ended = ended; none = found-is sc book t e ∙ c.0; steps = c.1; start = c.2; order = c.3 }
 
--- ---- the same where the scenario and the book have another name
+-- ---- the same for an equal scenario and book
 
 pub fault-at : (sc sc' : Scenario) (book book' : BookView) (start : Shown) → sc' ≡ sc → book' ≡ book → start_fault sc' book' start ≡ None → start_fault sc book start ≡ None
 fault-at sc sc' book book' start es eb e = ap₂ (λ s b. start_fault s b start) (sym es) (sym eb) ∙ e
@@ -110,7 +110,7 @@ pub end-err-at : (sc : Scenario) (book : BookView) (t : Transcript) (state : Cor
     → FinishTells r state count → count ≡ length t.steps → Explains r (not_shown sc book t)
 end-err-at sc book t state count r e a h n = end-err sc book t state r e a (subst (FinishTells r state) n h)
 
--- ---- steps that have no end
+-- ---- steps without an end
 
 pub started-none : (sc : Scenario) (book : BookView) (ended : Bool) (t : Transcript) (state : CoreState) → ended ≡ false → start_fault sc book t.start ≡ None → IsAt sc book t.order t.start (steps_in t.steps) [] (found_in sc book t) state → started_fault sc book ended t ≡ None
 started-none sc book ended t state e none a =

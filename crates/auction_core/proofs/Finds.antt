@@ -1,4 +1,4 @@
--- What a search in a list finds, how often a number stands in a list, and a list whose element at one place changes.
+-- What a search in a list finds, how often a number is in a list, and a list with one changed element.
 use Rattle.std.proofs.Common.{◌≡◌, ℕ, zero, suc, ◌+◌, ◌<◌, ◌≤◌, Bool, true, false, not, ◌||◌, cond, eqb, ◌⊎◌, inl, inr, List, [], ◌∷◌, ◌++◌, map, length, get_or, set, Some, None, refl, sym, ap, ◌∙◌, subst, arith}
 use Rattle.std.specs.List.{count_by, find, list_any, sum_by}
 use Rattle.std.proofs.lemmas.Bool.{cond-true, cond-false, eqb-true, eqb-false, ne_eqb, or_cases, or_right, true≢false, false≢true}
@@ -10,7 +10,7 @@ use Rattle.pack_defs.proofs.ClockSteps.{is_in-without}
 use Rattle.pack_defs.proofs.Rounds.{Apart}
 use Rattle.pack_defs.proofs.Standings.{count_absent, one_at}
 
--- none passes, or the search finds one that does
+-- no element satisfies p, or the search finds one that does
 pub find_cases : {X : Type 0} (p : X → Bool) (xs : List X) →
     ((find p xs ≡ None) × (list_any p xs ≡ false) × (count_by p xs ≡ 0)) ⊎ ((x : X) × (find p xs ≡ Some x) × (p x ≡ true) × (list_any p xs ≡ true) × (1 ≤ count_by p xs))
 find_cases p [] = inl (refl, refl, refl)
@@ -28,7 +28,7 @@ find_cases p (x ∷ xs) =
           ]
     ]) refl
 
--- a search in a list with one element more, where none passed before
+-- a search in a list with one more element, if none satisfied p before
 pub find-push_new : {X : Type 0} (p : X → Bool) (xs : List X) (x : X) → count_by p xs ≡ 0 → p x ≡ true → find p (xs ++ x ∷ []) ≡ Some x
 find-push_new p [] x none here = cond-true (p x) (Some x) None here
 find-push_new p (y ∷ xs) x none here =
@@ -40,7 +40,7 @@ find-push_new p (y ∷ xs) x none here =
       | false ↦ λ _. find-push_new p xs x (omega (arith, split, none)) here
     ]) refl
 
--- a number that stands in a list at most once leaves it when it is left out, and the others stay
+-- leaving out a number that is at most once in a list removes it and keeps the others
 pub count-without : (xs : List ℕ) (t s : ℕ) → is_in xs t ≡ true → sum_by (one_at s) xs ≤ 1 → one_at s t + sum_by (one_at s) (without xs t) ≡ sum_by (one_at s) xs
 count-without xs t s there once =
     (elim (eqb t s) as (λ b. eqb t s ≡ b → one_at s t + sum_by (one_at s) (without xs t) ≡ sum_by (one_at s) xs) [
@@ -73,21 +73,21 @@ count-without xs t s there once =
           | false ↦ λ _. omega (arith, sum_by-cons (one_at s) y ys, sum_by-cons (one_at s) y (without ys t), rest)
         ]) refl
 
--- a number is in a list that it heads, and in one that it follows in
+-- a number is in a list that it heads
 pub is_in-here : (x : ℕ) (xs : List ℕ) → is_in (x ∷ xs) x ≡ true
 is_in-here x xs = is_in-from (x ∷ xs) x (Contains-here x xs)
 
 pub is_in-later : (x y : ℕ) (xs : List ℕ) → is_in xs y ≡ true → is_in (x ∷ xs) y ≡ true
 is_in-later x y xs there = or_right (eqb x y) (is_in xs y) there
 
--- two functions that agree on the numbers of a list map it to one list
+-- two functions that agree on a list map it to the same list
 pub map_agree : {Y : Type 0} (f g : ℕ → Y) (xs : List ℕ) → ((x : ℕ) → is_in xs x ≡ true → f x ≡ g x) → map f xs ≡ map g xs
 map_agree f g [] same = refl
 map_agree f g (x ∷ xs) same =
     let rest = map_agree f g xs (λ y there. same y (is_in-later x y xs there)) in
     ap (λ y. y ∷ map f xs) (same x (is_in-here x xs)) ∙ ap (λ ys. g x ∷ ys) rest
 
--- where they agree on all numbers but the one at i, the lists differ at i alone
+-- two functions that agree except at element i map to lists that differ only there
 pub set-map : {Y : Type 0} (f g : ℕ → Y) (xs : List ℕ) (i : ℕ) (y : Y) → Apart xs → i < length xs → g (get_or xs i 0) ≡ y → ((x : ℕ) → (x ≡ get_or xs i 0 → ⊥) → f x ≡ g x) → set (map f xs) i y ≡ map g xs
 set-map f g [] i y apart within at others = absurd (omega arith)
 set-map f g (x ∷ xs) zero y apart within at others =

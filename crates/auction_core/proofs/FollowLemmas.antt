@@ -1,4 +1,4 @@
--- The auction that a transcript's steps settle, beside the walk that looks for the first step that is not shown.
+-- The auction that a transcript's steps settle, and the walk that looks for the first step that is not proved, side by side.
 use Rattle.std.proofs.Common.{◌≡◌, ℕ, ◌+◌, Bool, true, false, if◌then◌else◌, List, [], ◌∷◌, ◌++◌, length, Option, Some, None, option_map, refl, sym, ap, ◌∙◌, arith, inl, inr, append_assoc}
 use Rattle.std.specs.Prelude.{slice_get}
 use Rattle.std.specs.Option.{option_map_or}
@@ -31,7 +31,7 @@ use Rattle.auction_core.proofs.GoOnLemmas.{IsUnasked, IsStop, goes-on}
 use Rattle.auction_core.proofs.NumberLemmas.{steps-beside}
 use Rattle.auction_core.proofs.ThroughLemmas.{taken-more, through-next, took-none, took-query}
 
--- what a check of the next step comes to
+-- what the check of the next step reports
 pub record IsChecked (sc : Scenario) (book : BookView) (order : Order) (start : Shown) (done : List Step) (x : TranscriptStep) (xs : List TranscriptStep) (found : Option NotShown) (state : CoreState) (told : Option ShownWhy) (leaves : CoreState) : Type 0 where
   pub none : told ≡ None → IsAt sc book order start (done ++ x.step ∷ []) xs found leaves
   pub some : (why : ShownWhy) → told ≡ Some why → found ≡ not_shown_at (length done + 1) why
@@ -49,7 +49,7 @@ why-is a b e = cc
 no-why : (why : ShownWhy) → None ≡ Some why → ⊥
 no-why why e = cc
 
--- the two ways to tell a step's fault
+-- the two ways to report a step's fault agree
 fault-same : (test : Bool) (fault : Option Place) (step : ℕ) (more : Option NotShown) → (if test then option_map NotValid fault else Some Why.Order) ≡ None
     → (test ≡ true) × (fault ≡ None) × ((if test then step_fault_or step fault more else not_shown_at step Why.Order) ≡ more)
 fault-same true None step more e = (refl, refl, refl)
@@ -62,12 +62,12 @@ fault-why true None step more why e = absurd (no-why why e)
 fault-why true (Some place) step more why e = ap (not_shown_at step) (why-is (NotValid place) why e)
 fault-why false fault step more why e = ap (not_shown_at step) (why-is Why.Order why e)
 
--- only where the test is the step's does the fault count
+-- the fault counts only if the test is the step's
 in-true : (b : Bool) (step : ℕ) (f g : Option Place) (more : Option NotShown) → (b ≡ true → f ≡ g) → (if b then step_fault_or step f more else not_shown_at step Why.Order) ≡ (if b then step_fault_or step g more else not_shown_at step Why.Order)
 in-true true step f g more h = ap (λ (o : Option Place). step_fault_or step o more) (h refl)
 in-true false step f g more h = refl
 
--- the walk at a step whose test is the next one that is asked
+-- the walk at a step whose test is the next one asked
 at-next : (sc : Scenario) (book : BookView) (step : ℕ) (at : CoreState) (left : List ClockTest) (t : ClockTest) (rest : List ClockTest) (x : TranscriptStep) (xs : List TranscriptStep) → next_asked at.clock left ≡ t ∷ rest
     → steps_fault sc book step at left (x ∷ xs) ≡ (if is_test t x then step_fault_or step (step_fault sc book at x) (steps_fault sc book (step + 1) (settled sc at (test_of x.step) x.step.shown) rest xs) else not_shown_at step Why.Order)
 unfolding steps_fault
@@ -82,7 +82,7 @@ uncounted start done x e = let more = taken-more start done x false e in omega (
 counted-on : (start : Shown) (done : List Step) (x : Step) → took_query x.shown ≡ true → 1 + queries_taken start done + 1 ≡ 1 + queries_taken start (done ++ x ∷ [])
 counted-on start done x e = let more = taken-more start done x true e in omega (arith, more)
 
--- going through the steps behind one more
+-- going through the steps after one more step
 further : (sc : Scenario) (book : BookView) (order : Order) (start : Shown) (done : List Step) (x : Step) (more : List Step) (left : List ClockTest) (t : ClockTest) (rest : List ClockTest) (at : CoreState) (n : ℕ) (l : List ClockTest) → next_asked at.clock left ≡ t ∷ rest → t ≡ test_of x
     → go_through sc book (clock_tests sc order) (done ++ x ∷ more) (record (after_start sc order start) { number = n }) ≡ go_through sc book left (x ∷ more) (record at { left = l; noted = []; number = n })
     → go_through sc book (clock_tests sc order) ((done ++ x ∷ []) ++ more) (record (after_start sc order start) { number = n }) ≡ go_through sc book rest more (record (settled sc at (test_of x) x.shown) { left = l; noted = []; number = n })
@@ -129,21 +129,21 @@ unasked sc book order start done x xs found state a u =
       some = λ why e. found-is ∙ fault-why (is_test u.test x) fault step more why (sym told-is ∙ e);
     }
 
--- the walk at a step where no test is left
+-- the walk at a step when no test is left
 at-end : (sc : Scenario) (book : BookView) (step : ℕ) (at : CoreState) (left : List ClockTest) (x : TranscriptStep) (xs : List TranscriptStep) → next_asked at.clock left ≡ []
     → steps_fault sc book step at left (x ∷ xs) ≡ not_shown_at step Why.Order
 unfolding steps_fault
 at-end sc book step at left x xs e = rw e refl
 
--- ---- where a query stands, or the auction has ended
+-- ---- at a query, or at the end
 
--- the query where the auction has stopped
+-- the query at which the auction has stopped
 stopped-task : (sc : Scenario) (book : BookView) (at : CoreState) (left : List ClockTest) (start : Shown) → at.start ≡ Some start → task_of sc book (record at { left = left }) ≡ first_task sc book at left
 unfolding task_of
 stopped-task sc book at [] start e = rw e refl
 stopped-task sc book at (t ∷ ts) start e = rw e refl
 
--- the state once its query is settled
+-- the state once that query is settled
 stopped-answer : (sc : Scenario) (book : BookView) (at : CoreState) (t : ClockTest) (ts : List ClockTest) (start shown : Shown) → at.start ≡ Some start
     → answered sc book (record at { left = t ∷ ts }) shown ≡ go_on sc book ts (settled sc (record at { left = t ∷ ts; noted = []; number = at.number + 1 }) t shown)
 stopped-answer sc book at t ts start shown e = rw e refl
@@ -207,7 +207,7 @@ stopped sc book order start done x xs found state a s =
           some = λ why e. found-is ∙ fault-why (is_test t x) fault step' more why (sym told ∙ (sym told-is ∙ e));
         }
 
--- a check of the next step
+-- the check of the next step
 pub checked : (sc : Scenario) (book : BookView) (order : Order) (start : Shown) (done : List Step) (x : TranscriptStep) (xs : List TranscriptStep) (found : Option NotShown) (state : CoreState) → IsAt sc book order start done (x ∷ xs) found state
     → IsChecked sc book order start done x xs found state (step_told sc book state (length done) x) (step_leaves sc book state (length done) x)
 checked sc book order start done x xs found state a = elim (goes-on sc book a.left a.at) [
@@ -217,7 +217,7 @@ checked sc book order start done x xs found state a = elim (goes-on sc book a.le
 
 -- ---- the end
 
--- the steps are all that there are, and the auction has ended; else a step is missing
+-- the steps are complete and the auction has ended, or a step is missing
 pub record IsEndChecked (order : Order) (start : Shown) (done : List Step) (found : Option NotShown) (state : CoreState) : Type 0 where
   pub all : has_ended state ≡ true → length state.steps ≡ length done → (found ≡ None) × (state.steps ≡ done) × (state.start ≡ Some start) × (state.order ≡ order)
   pub running : has_ended state ≡ false → found ≡ not_shown_at (length done + 1) Why.Order

@@ -1,4 +1,4 @@
--- The walk of the auction to its next query, beside the walk over the steps of a transcript.
+-- The auction's walk to its next query, and the walk over the steps of a transcript, side by side.
 use Rattle.std.proofs.Common.{◌≡◌, Bool, true, false, List, [], ◌∷◌, Option, Some, None, refl, subst, inl, inr, ◌⊎◌}
 use Rattle.pack_defs.specs.declared.scenario.Scenario.{Scenario}
 use Rattle.pack_defs.specs.Book.{BookView}
@@ -7,7 +7,7 @@ use Rattle.auction_core.specs.declared.record.Shown.{Shown}
 use Rattle.auction_core.specs.State.{CoreState, settled, settled_unasked, go_on}
 use Rattle.auction_core.specs.NotShown.{next_asked}
 
--- going on settles the next test that is asked so, without a query
+-- going on settles the next test that is asked, without a query
 pub record IsUnasked (sc : Scenario) (book : BookView) (ts : List ClockTest) (state : CoreState) : Type 0 where
   pub test : ClockTest
   pub rest : List ClockTest

@@ -34,7 +34,7 @@ use Rattle.auction_core.proofs.Walk.{shown-number, IsStepShown-same, walk-step, 
 
 -- ---- parts of a state
 
--- going on leaves how the start was shown, and what is noted
+-- going on keeps the start and the pending receipts
 pub go-on-start : (sc : Scenario) (book : BookView) (ts : List ClockTest) (state : CoreState) → ((go_on sc book ts state).start ≡ state.start) × ((go_on sc book ts state).noted ≡ state.noted)
 go-on-start sc book [] state = (refl, refl)
 go-on-start sc book (t ∷ ts) state =
@@ -65,7 +65,7 @@ from-parts sc book state o e k s n = record {
 
 -- ---- the start
 
--- nothing was done
+-- the clock has not moved
 pub record IsBare (sc : Scenario) (state : CoreState) : Type 0 where
   pub clock : state.clock ≡ opening_state sc
   pub left : state.left ≡ []
@@ -87,7 +87,7 @@ first-walk sc book shown state a h k r =
       fits = fits-stand-first sc book (record state { start = Some shown; map = overlaid state.map (start_delta shown) }) h.clock h.steps;
     }
 
--- a start that is shown as it has to be keeps the rule
+-- a properly settled start keeps the rule
 started-keeps : (sc : Scenario) (book : BookView) (shown : Shown) (state : CoreState) → IsAuction sc book → IsBare sc state → state.noted ≡ [] → IsStartShown sc book shown → IsKept sc book (started sc book state shown)
 started-keeps sc book shown state a h n k =
     let on : CoreState = record state { start = Some shown; map = overlaid state.map (start_delta shown) } in
@@ -131,7 +131,7 @@ open-of false false c n e = cc
 open-of false true true n e = cc
 open-of false true false n e = (refl, refl)
 
--- a posting that isn't turned away meets a query, and is of a worker
+-- for a posting that is not turned away there is a query, and its worker exists
 pub not-ended : (sc : Scenario) (state : CoreState) (w number : ℕ) → turned_away sc state w number ≡ None → (has_ended state ≡ false) × (w < length sc.workers)
 not-ended sc state w number e =
     let h = open-of (has_ended state) (number == state.number) (nat_le (length sc.workers) w) state.number e in
@@ -169,7 +169,7 @@ settled-test sc book start state t ts shown a u r k e f s =
     (λ no. absurd (both_ways (shows_room start) no r)))
     (none-noted sc book (go_on sc book ts after) a g.1)
 
--- a valid verdict on the standing query keeps the rule
+-- settling the current query properly keeps the rule
 pub answered-keeps : (sc : Scenario) (book : BookView) (state : CoreState) (shown : Shown) → IsAuction sc book → IsKept sc book state → has_ended state ≡ false → SettlesQuery sc book state shown → IsKept sc book (answered sc book state shown)
 answered-keeps sc book state shown a h on s =
     let next : CoreState = record state { noted = []; number = state.number + 1 } in
@@ -195,13 +195,13 @@ answered-keeps sc book state shown a h on s =
 
 -- ---- the eight outcomes
 
--- a list has what stands at a place within it
+-- a list has an element at each place within it
 within-list : (xs : List Worker) (i : ℕ) → i < length xs → slice_get xs i ≡ None → ⊥
 within-list [] i h e = omega arith
 within-list (x ∷ xs) zero h e = cc
 within-list (x ∷ xs) (suc i) h e = within-list xs i (omega arith) e
 
--- where an auction hasn't ended, a query stands
+-- if an auction has not ended, there is a current query
 some-query : (sc : Scenario) (book : BookView) (state : CoreState) → has_ended state ≡ false → task_of sc book state ≡ None → ⊥
 some-query sc book state on e =
     let go : (o : Option Shown) (l : List ClockTest) → (if is_none o then false else is_empty l) ≡ false → (if is_none o then Some (start_task sc state.number) else first_task sc book state l) ≡ None → ⊥ = λ o l. elim o as (λ o. (if is_none o then false else is_empty l) ≡ false → (if is_none o then Some (start_task sc state.number) else first_task sc book state l) ≡ None → ⊥) [
@@ -218,7 +218,7 @@ no-fault book answer None p f g e = absurd (f refl)
 no-fault book answer (Some task) None f g e = absurd (g refl)
 no-fault book answer (Some task) (Some worker) f g e = e
 
--- a posting that is not turned away, and whose answer has no fault, answers the standing query
+-- a posting that is not turned away and whose answer has no fault answers the current query
 answers : (sc : Scenario) (book : BookView) (state : CoreState) (p : PostingView) (answer : Answer) → turned_away sc state p.worker p.number ≡ None → fault_of sc book state p ≡ None → p.answer ≡ answer → Answers sc book state p.worker answer
 answers sc book state p answer t f e =
     let parts = not-ended sc state p.worker p.number t in
@@ -241,7 +241,7 @@ fit-settles sc book state w delta h =
     ] in
     go (task_of sc book state) h
 
--- the task doesn't depend on what is noted, so the rest of the state stands
+-- the query does not depend on the pending receipts, so the rest of the state stays
 more-stands : (sc : Scenario) (book : BookView) (state : CoreState) (x : NotedSpent) → IsKept sc book state → AreNoted sc book (with_noted state x) → IsKept sc book (with_noted state x)
 more-stands sc book state x h n =
     let go : (o : Option Shown) → state.start ≡ o → Stands sc book state o → Stands sc book (with_noted state x) o = λ o. elim o as (λ o. state.start ≡ o → Stands sc book state o → Stands sc book (with_noted state x) o) [

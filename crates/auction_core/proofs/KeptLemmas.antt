@@ -1,4 +1,4 @@
--- What is kept of a transcript without a fault are the first tests that the rule asks, each shown as it has to be.
+-- The accepted beginning of a transcript has the first tests that the rule asks, each properly settled. For `follow_kept`.
 use Rattle.std.proofs.Common.{◌≡◌, ℕ, suc, ◌+◌, ◌≤◌, Bool, true, false, not, ◌&&◌, nat_le, if◌then◌else◌, List, [], ◌∷◌, ◌++◌, map, length, take, Option, Some, None, refl, sym, ap, subst, ◌∙◌, arith, append_assoc}
 use Rattle.std.specs.Option.{option_map_or}
 use Rattle.std.proofs.lemmas.Bool.{both_ways}
@@ -48,11 +48,11 @@ within-some steps fault h = go (nat_le fault.step steps) (le-true fault.step ste
     go true e = refl
     go false e = absurd cc
 
--- so there is none where none is within them
+-- if no fault is within them, none of them has one
 none-within : (steps step : ℕ) (why : ShownWhy) → step ≤ steps → within_steps steps (not_shown_at step why) ≡ None → ⊥
 none-within steps step why h e = some-none (record { step = step; why = why }) (sym (within-some steps (record { step = step; why = why }) h) ∙ e)
 
--- a fault behind these steps is not within them
+-- a fault after these steps is not within them
 pub within-behind : (steps : ℕ) (why : ShownWhy) → within_steps steps (not_shown_at (steps + 1) why) ≡ None
 within-behind steps why = go (nat_le (steps + 1) steps) (le-false steps)
   where
@@ -65,7 +65,7 @@ within-behind steps why = go (nat_le (steps + 1) steps) (le-false steps)
 
 -- ---- the steps
 
--- what steps without a fault of their own leave: the clock stands before these tests
+-- what steps without a fault lead to: the clock is before these tests
 pub record IsFollowedSoFar (sc : Scenario) (book : BookView) (start : Shown) (state : CoreState) (xs : List TranscriptStep) : Type 0 where
   pub before : List ClockTest
   pub left : List ClockTest
@@ -115,9 +115,9 @@ followed-so-far sc book start k state before ts (x ∷ xs) a w parts e =
         (subst (λ n. within_steps n (steps_fault sc book (k + 1 + 1) next us xs) ≡ None) (shift k (length xs)) both.1) in
         record { before = rest.before; left = rest.left; walked = rest.walked; parts = rest.parts; numbered = (shown.1, rest.numbered) }
 
--- ---- the whole
+-- ---- the complete beginning
 
--- the first of a list that has these in front
+-- the first n elements of a list that begins with n given ones
 first-of : {A : Type 0} (xs ys zs : List A) (n : ℕ) → xs ≡ ys → length ys ≡ n → ys ≡ take n (xs ++ zs)
 first-of {A = A} xs ys zs n e h = subst (λ (ws : List A). ys ≡ take n (ws ++ zs)) (sym e) (subst (λ k. ys ≡ take k (ys ++ zs)) h (own ys zs))
   where
@@ -128,7 +128,7 @@ first-of {A = A} xs ys zs n e h = subst (λ (ws : List A). ys ≡ take n (ws ++ 
 none-before : (n : ℕ) → 0 + n ≡ n
 none-before n = omega arith
 
--- behind a start shown so
+-- after a start
 started : (sc : Scenario) (book : BookView) (order : Order) (start : Shown) (xs : List TranscriptStep) → IsAuction sc book → start_fault sc book start ≡ None → within_steps (length xs) (steps_fault sc book 1 (after_start sc order start) (clock_tests sc order) xs) ≡ None
     → IsPrefix sc book order (Some start) (steps_in xs) × AreNumbered sc book (after_start sc order start) xs
 unfolding asked_tests
@@ -160,7 +160,7 @@ none-if : (b : Bool) (steps : ℕ) (o : Option NotShown) → (if b then o else w
 none-if true steps o e = ap (within_steps steps) e
 none-if false steps o e = e
 
--- What is kept without a fault may be kept.
+-- the beginning of a transcript without a fault may be continued
 pub kept-prefix : (sc : Scenario) (book : BookView) (p : Prefix) → IsAuction sc book → not_kept sc book p ≡ None → IsPrefix sc book (order_kept p) p.start (steps_in p.steps)
 unfolding not_kept not_shown
 kept-prefix sc book p a e = go p.start e
@@ -188,9 +188,9 @@ kept-prefix sc book p a e = go p.start e
         let parts = or-within (length p.steps) 0 (start_fault sc book start) (steps_fault sc book 1 (after_start sc (order_kept p) start) (clock_tests sc (order_kept p)) p.steps) (omega arith) found in
         (started sc book (order_kept p) start p.steps a parts.0 parts.1).0
 
--- ---- what the code comes to
+-- ---- what the code reports
 
--- where the walk over the steps has come behind the last one, no fault is within them
+-- after the last step of the walk, no fault is within the steps
 pub end-within : (sc : Scenario) (book : BookView) (order : Order) (start : Shown) (done : List Step) (found : Option NotShown) (state : CoreState) → IsAt sc book order start done [] found state → within_steps (length done) found ≡ None
 unfolding steps_fault
 end-within sc book order start done found state a = ap (within_steps (length done)) (sym a.rest) ∙ go (next_asked a.at.clock a.left)
@@ -203,16 +203,16 @@ pub early-more : (e : ResumeErr) (n m : ℕ) → IsEarly e n → n ≤ m → IsE
 early-more (resume.NotShown step why) n m h le = omega (arith, h, le)
 early-more resume.NoMemory n m h le = tt
 
--- an error that is early is the fault within
+-- an early error is the fault within the steps
 pub explains-within : (e : ResumeErr) (n : ℕ) (found : Option NotShown) → Explains e found → IsEarly e n → Explains e (within_steps n found)
 explains-within resume.NoMemory n found h early = tt
 explains-within (resume.NotShown step why) n found h early = ap (within_steps n) h ∙ within-some n (record { step = step; why = why }) early
 
--- the start set fits where the start has no fault
+-- a start without a fault fits
 pub started-room : (sc : Scenario) (book : BookView) (start : Shown) → start_fault sc book start ≡ None → shows_room start ≡ true
 started-room sc book start e = done-room start (start-shown sc book start e).1
 
--- where the start test stands
+-- before the start test is settled
 pub unstarted : (sc : Scenario) (book : BookView) (p : Prefix) (b : Bool) → p.start ≡ None → (is_empty p.steps && not p.ended) ≡ b → not_kept sc book p ≡ (if b then None else not_shown_at 1 WrongTest)
 unfolding not_kept
 unstarted sc book p b e h = ap (λ (o : Option Shown). option_map_or (λ start. started_fault sc book p.ended (kept_as p start)) o (unstarted_fault p)) e ∙ ap (λ (b : Bool). if b then None else not_shown_at 1 WrongTest) h
@@ -221,7 +221,7 @@ pub unstarted-state : (sc : Scenario) (book : BookView) (order : Order) (start :
 unfolding resumed
 unstarted-state sc book order start steps e = ap (λ (o : Option Shown). resumed sc book order o steps) (sym e)
 
--- where it was shown
+-- after the start test is settled
 pub kept-started : (sc : Scenario) (book : BookView) (p : Prefix) (start : Shown) (order : Order) (steps : List TranscriptStep) → p.start ≡ Some start → order ≡ order_kept p → steps ≡ p.steps
     → not_kept sc book p ≡ started_fault sc book p.ended (record { order = order; start = start; steps = steps })
 unfolding not_kept

@@ -1,4 +1,4 @@
--- What is kept of the tests so far goes with the clock.
+-- The test history follows the clock. For `course::settle`.
 use Rattle.std.proofs.Common.{◌≡◌, ◌∙◌, ℕ, zero, suc, ◌+◌, ◌<◌, Bool, true, false, cond, ◌||◌, eqb, length-append, inl, inr, ⊎_elim, unwrap_or, Contains, List, [], ◌∷◌, ◌++◌, length, set, get_or, get_or-set_same, Option, Some, None, MatchOption, refl, sym, ap, subst, arith}
 use Rattle.std.proofs.lemmas.Bool.{cases_eq, cases_lt, cond-false, cond-true, eq-eqb, eqb-true, false≢true, ne_eqb}
 use Rattle.std.proofs.lemmas.List.{length-map}
@@ -30,9 +30,9 @@ use Rattle.auction_core.proofs.Merged.{in-component}
 use Rattle.auction_core.proofs.Sets.{last_fit-push, step_of, unasked-cases, within-fit}
 use Rattle.auction_core.proofs.Since.{after-clock, joined-parts}
 
--- ---- what a step's verdict may be
+-- ---- which verdicts a step may have
 
--- a step that is shown as it has to be names no other station as one without a channel
+-- a properly settled step names no other station as one without a channel
 pub step-names : (sc : Scenario) (book : BookView) (state : CoreState) (t : ClockTest) (shown : Shown) → IsStepShown sc book state (step_of t shown) → names_only t.station shown ≡ true
 step-names sc book state t shown h =
     let go : (o : Option Shown) → settled_unasked sc book state t ≡ o → MatchOption o (IsSettledBy sc book (test_task sc book state t) shown) (λ unasked. shown ≡ unasked) → names_only t.station shown ≡ true = λ o. elim o as (λ o. settled_unasked sc book state t ≡ o → MatchOption o (IsSettledBy sc book (test_task sc book state t) shown) (λ unasked. shown ≡ unasked) → names_only t.station shown ≡ true) [
@@ -53,7 +53,7 @@ step-names sc book state t shown h =
     by-query (Outside proof) k = refl
     by-query (Undecided receipts) k = refl
 
--- what needs no query has no verdict of its own
+-- a test that needs no query has no verdict of its own
 pub unasked-none : (sc : Scenario) (book : BookView) (state : CoreState) (t : ClockTest) (u : Shown) → settled_unasked sc book state t ≡ Some u → takes_verdict (way_of u) ≡ true → ⊥
 unasked-none sc book state t u e k =
     ⊎_elim
@@ -61,11 +61,11 @@ unasked-none sc book state t u e k =
     (λ same. false≢true (sym (ap (λ x. takes_verdict (way_of x)) same.1) ∙ k))
     (unasked-cases sc book state t u e)
 
--- what a test asks about are the scenario's stations
+-- a test asks about the scenario's stations only
 tested-within : (sc : Scenario) (book : BookView) (clock : ClockState) (s z : ℕ) → is_in (tested_set sc book clock s) z ≡ true → is_in (facilities sc) z ≡ true
 tested-within sc book clock s z h = (filter-in (λ f. is_on_air clock f || (eqb f s)) (facilities sc) z (in-component book (asked_set sc clock s) s z h)).0
 
--- a step that is shown as it has to be gives channels to the scenario's stations alone, where the fits before it do
+-- a properly settled step gives channels to the scenario's stations only, if the fits before it do
 pub step-within : (sc : Scenario) (book : BookView) (state : CoreState) (t : ClockTest) (shown : Shown) → IsStepShown sc book state (step_of t shown) → ((f : ℕ) → GivesWithin sc (last_fit state.steps f [])) → GivesWithin sc (delta_of state.steps t.station shown)
 step-within sc book state t shown h before =
     let go : (o : Option Shown) → settled_unasked sc book state t ≡ o → MatchOption o (IsSettledBy sc book (test_task sc book state t) shown) (λ unasked. shown ≡ unasked) → GivesWithin sc (delta_of state.steps t.station shown) = λ o. elim o as (λ o. settled_unasked sc book state t ≡ o → MatchOption o (IsSettledBy sc book (test_task sc book state t) shown) (λ unasked. shown ≡ unasked) → GivesWithin sc (delta_of state.steps t.station shown)) [
@@ -86,10 +86,10 @@ step-within sc book state t shown h before =
     by-query (Outside proof) k = before t.station
     by-query (Undecided receipts) k = before t.station
 
--- ---- one test more
+-- ---- one more test
 
--- What is kept once the next test is settled so: its step stands behind the others, how many were on air stands at its
--- station's place, and the station has joined the parts where it went on air, and else they stand.
+-- The test history once the next test is settled. Its step is appended, and the number of stations on air is stored at its
+-- station's place. A station that went on air has joined its components.
 pub record HasNoted (s : SetupView) (c : CourseView) (shown : Shown) (i : ℕ) (past : PastView) : Type 0 where
   pub steps : IsStepMore s c shown past
   pub seen : past.seen ≡ set c.past.seen i c.past.on_air
@@ -101,7 +101,7 @@ last_seen-push : (sc : Scenario) (st : ClockState) (xs : List Step) (x : Step) (
 last_seen-push sc st [] x s n = refl
 last_seen-push sc st (y ∷ ys) x s n = last_seen-push sc (after_answer sc st (test_of y) (shows_room y.shown)) ys x s (cond (eqb y.station s) (length st.on_air) n)
 
--- the parts go with the clock, by the test's answer
+-- the labels follow the clock, by the test's answer
 parts-after : (sc : Scenario) (book : BookView) (clock : ClockState) (t : ClockTest) (fits : Bool) (old new : PartsView) (n : ℕ) → Contains (facilities sc) t.station → is_on_air clock t.station ≡ false → IsPartsOf sc book clock old → new.stations ≡ old.stations → n ≡ length clock.on_air →
     (stands_on_air (answered_standing sc t fits) ≡ true → (z : ℕ) → label_of new z ≡ relabelled book (labelled old) (label_of old) t.station (n + 1) z) →
     (stands_on_air (answered_standing sc t fits) ≡ false → new ≡ old) → IsPartsOf sc book (after_answer sc clock t fits) new
@@ -113,7 +113,7 @@ parts-after sc book clock t true old new n known off h same count went stood =
       | false ↦ λ _ st. subst (IsPartsOf sc book clock) (sym (st refl)) h
     ]) went stood
 
--- so does the number of stations on air
+-- the number of stations on air follows the clock
 on_air-after : (sc : Scenario) (clock : ClockState) (t : ClockTest) (fits : Bool) (old new : ℕ) → old ≡ length clock.on_air →
     (stands_on_air (answered_standing sc t fits) ≡ true → new ≡ old + 1) → (stands_on_air (answered_standing sc t fits) ≡ false → new ≡ old) → new ≡ length (after_answer sc clock t fits).on_air
 on_air-after sc clock t false old new count went stood = stood refl ∙ count
@@ -147,7 +147,7 @@ one-place xs i k up a b e =
       ]
     ]
 
--- what is kept goes with the clock
+-- the test history follows the clock
 pub next-past : (s : SetupView) (c : CourseView) (shown : Shown) (i : ℕ) (past : PastView) → IsSetupSound s → KeepsPast s c → IsAt s c i → HasNoted s c shown i past →
     is_on_air (clock_of s c) (next_test s c).station ≡ false → GivesWithin s.scenario (delta_of c.past.steps (next_test s c).station shown) → KeepsPast s (next_course s c shown i past)
 next-past s c shown i past l k at j off gives =
@@ -193,7 +193,7 @@ next-past s c shown i past l k at j off gives =
           | false ↦ λ e. subst (GivesWithin s.scenario) (sym (push ∙ cond-false (eqb t.station f) _ _ e)) (k.fits f)
         ]) refl
 
--- the station's last fit is what its test gives the map
+-- the station's last fit is what its test puts into the map
 pub fit-next : (s : SetupView) (c : CourseView) (shown : Shown) → last_fit (c.past.steps ++ step_of (next_test s c) shown ∷ []) (next_test s c).station [] ≡ delta_of c.past.steps (next_test s c).station shown
 fit-next s c shown =
     let t = next_test s c in

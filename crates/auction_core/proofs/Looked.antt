@@ -1,4 +1,4 @@
--- A posting whose answer was looked at before does what a posting with that answer does.
+-- A posting whose answer was checked before does what a posting with that answer does.
 use Rattle.std.proofs.Common.{◌≡◌, ap, sym, ◌∙◌, Option, Some, None, refl, option_and_then, MatchOption}
 use Rattle.std.specs.Prelude.{slice_get}
 use Rattle.std.specs.Option.{option_map_or}

@@ -1,4 +1,4 @@
--- The places of the workers and the list of those that are noted.
+-- The slots of the workers, and the list of pending receipts. For `notes`.
 use Rattle.std.proofs.Common.{◌≡◌, ℕ, zero, suc, ◌+◌, ◌<◌, ◌≤◌, false, true, ◌==◌, ◌||◌, if◌then◌else◌, List, [], ◌∷◌, ◌++◌, length, Option, Some, None, is_some, get_or, drop, refl, sym, ap, subst, ◌∙◌, arith, eq-eqb, ne_eqb, lt-ltb, le-ltb}
 use Rattle.std.specs.Prelude.{slice_set}
 use Rattle.std.proofs.lemmas.Bool.{or_left}
@@ -8,14 +8,14 @@ use Rattle.auction_core.specs.Take.{is_noted, noted_with}
 use Rattle.auction_core.specs.Notes.{notes_from, notes_of}
 use Rattle.auction_core.proofs.Cases.{noted_as}
 
--- no note is of a worker before the first place
+-- no receipt is of a worker before the first slot
 not-before : (w i : ℕ) (xs : List (Option Receipt)) → i < w → is_noted (notes_from w xs) i ≡ false
 not-before w i [] h = refl
 not-before w i (None ∷ xs) h = not-before (w + 1) i xs (omega arith)
 not-before w i (Some r ∷ xs) h =
     ap (λ b. b || is_noted (notes_from (w + 1) xs) i) (ne_eqb w i (λ e. omega arith)) ∙ not-before (w + 1) i xs (omega arith)
 
--- a worker is noted exactly where its place has a receipt
+-- a worker's receipt is pending if and only if its slot is full
 noted-from : (w i : ℕ) (xs : List (Option Receipt)) (d : Option Receipt) → i < length xs → is_noted (notes_from w xs) (w + i) ≡ is_some (get_or xs i d)
 noted-from w i [] d h = absurd (omega arith)
 noted-from w zero (None ∷ xs) d h = not-before (w + 1) (w + 0) xs (omega arith)
@@ -33,14 +33,14 @@ noted-at i xs d h =
     let here : i ≡ 0 + i = omega arith in
     ap (is_noted (notes_of xs)) here ∙ noted-from 0 i xs d h
 
--- a note of a worker before the first place comes first
+-- a receipt of a worker before the first slot comes first
 comes-first : (x : NotedSpent) (w : ℕ) (xs : List (Option Receipt)) → x.worker < w → noted_with x (notes_from w xs) ≡ x ∷ notes_from w xs
 comes-first x w [] h = refl
 comes-first x w (None ∷ xs) h = comes-first x (w + 1) xs (omega arith)
 comes-first x w (Some r ∷ xs) h =
     ap (λ b. if b then x ∷ noted_as w r ∷ notes_from (w + 1) xs else noted_as w r ∷ noted_with x (notes_from (w + 1) xs)) (lt-ltb x.worker w h)
 
--- a receipt put into a worker's empty place is noted
+-- a receipt put into a worker's empty slot becomes pending
 with-from : (w i : ℕ) (xs : List (Option Receipt)) (r : Receipt) → i < length xs → get_or xs i None ≡ None → noted_with (noted_as (w + i) r) (notes_from w xs) ≡ notes_from w (slice_set xs i (Some r))
 with-from w i [] r h e = absurd (omega arith)
 with-from w zero (None ∷ xs) r h e =
@@ -64,20 +64,20 @@ with-at i xs r h e =
     empty None k = refl
     empty (Some x) k = cc
 
--- one more place, without a receipt
+-- one more slot, empty
 pub place-more : (w : ℕ) (xs : List (Option Receipt)) → notes_from w (xs ++ None ∷ []) ≡ notes_from w xs
 place-more w [] = refl
 place-more w (None ∷ xs) = place-more (w + 1) xs
 place-more w (Some r ∷ xs) = ap (λ ns. noted_as w r ∷ ns) (place-more (w + 1) xs)
 
--- no worker past the last place is noted
+-- no worker after the last slot has a pending receipt
 pub not-past : (w i : ℕ) (xs : List (Option Receipt)) → w + length xs ≤ i → is_noted (notes_from w xs) i ≡ false
 not-past w i [] h = refl
 not-past w i (None ∷ xs) h = not-past (w + 1) i xs (omega arith)
 not-past w i (Some r ∷ xs) h =
     ap (λ b. b || is_noted (notes_from (w + 1) xs) i) (ne_eqb w i (λ e. omega arith)) ∙ not-past (w + 1) i xs (omega arith)
 
--- how many places have a receipt
+-- the number of full slots
 abbrev pub how_many : List (Option Receipt) → ℕ
 how_many [] = 0
 how_many (None ∷ xs) = how_many xs
@@ -93,7 +93,7 @@ many-bound [] = omega arith
 many-bound (None ∷ xs) = let rest = many-bound xs in omega arith
 many-bound (Some r ∷ xs) = let rest = many-bound xs in omega arith
 
--- one place more, with a receipt or without one
+-- one more slot, full or empty
 pub one-more : (i : ℕ) (xs : List (Option Receipt)) (d : Option Receipt) → i < length xs → is_some (get_or xs i d) ≡ true → how_many (drop i xs) ≡ how_many (drop (i + 1) xs) + 1
 one-more i xs d h e = let next : i + 1 ≡ suc i = omega arith in subst (λ k. how_many (drop i xs) ≡ how_many (drop k xs) + 1) (sym next) (go i xs h e)
   where
@@ -112,7 +112,7 @@ no-more i xs d h e = let next : i + 1 ≡ suc i = omega arith in subst (λ k. ho
     go zero (Some r ∷ xs) h e = cc
     go (suc i) (x ∷ xs) h e = go i xs (omega arith) e
 
--- at the end those counted are all
+-- at the end all are counted
 pub all-counted : (i count : ℕ) (xs : List (Option Receipt)) → i ≡ length xs → count + how_many (drop i xs) ≡ how_many xs → count ≡ length (notes_of xs)
 all-counted i count xs e h =
     let none : how_many (drop i xs) ≡ 0 = ap (λ (k : ℕ). how_many (drop k xs)) e ∙ none-left xs in

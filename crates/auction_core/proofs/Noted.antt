@@ -1,4 +1,4 @@
--- The Spents that stand noted: one more keeps them, and the last one settles the test.
+-- Pending receipts: one more keeps them valid, and the last one settles the test.
 use Rattle.std.proofs.Common.{◌≡◌, ℕ, ◌+◌, ◌<◌, ◌≤◌, Bool, true, false, ◌==◌, nat_lt, if◌then◌else◌, List, [], ◌∷◌, map, length, Option, Some, None, MatchOption, drop, refl, sym, ap, ◌∙◌, subst, ⊎_elim, inl, inr, eqb-true, eq-eqb, arith, zero, suc, length-drop, ◌⊎◌}
 use Rattle.std.specs.Prelude.{slice_get}
 use Rattle.std.proofs.lemmas.Bool.{and_from, or_cases, or_left, or_right, or_parts, both_ways, ltb-false, false≢true, cases_order}
@@ -65,7 +65,7 @@ valid-with sc book state x (n ∷ ns) v h =
     ] in
     go (nat_lt x.worker n.worker)
 
--- the query doesn't depend on what is noted
+-- the query does not depend on the pending receipts
 task-with : (sc : Scenario) (book : BookView) (state : CoreState) (x : NotedSpent) → task_of sc book (with_noted state x) ≡ task_of sc book state
 unfolding task_of
 task-with sc book state x = refl
@@ -75,7 +75,7 @@ valid-moves sc book state x [] h = tt
 valid-moves sc book state x (n ∷ ns) h =
     ((h.0.0, subst (λ o. MatchOption o ⊥ (λ task. IsValidOf sc book task n.worker (Spent n.receipt))) (sym (task-with sc book state x)) h.0.1), valid-moves sc book state x ns h.1)
 
--- one more, where it isn't the last
+-- one more receipt that is not the last
 pub noted-more : (sc : Scenario) (book : BookView) (state : CoreState) (x : NotedSpent) → AreNoted sc book state → IsValidSpent sc book state x → is_noted state.noted x.worker ≡ false → (length state.noted + 1 == length sc.workers) ≡ false → AreNoted sc book (with_noted state x)
 noted-more sc book state x h v new more =
     let long = length-with x state.noted in
@@ -87,9 +87,9 @@ noted-more sc book state x h v new more =
       valid = valid-moves sc book state x (noted_with x state.noted) (valid-with sc book state x state.noted v h.valid);
     }
 
--- ---- all of them
+-- ---- all receipts
 
--- ascending workers from lo on, below k, are no more than there are numbers
+-- ascending workers from lo on are no more than the numbers from lo to the number of workers
 few : (sc : Scenario) (book : BookView) (state : CoreState) (lo : ℕ) (ns : List NotedSpent) → lo ≤ length sc.workers → is_ascending (workers_of ns) ≡ true → ((z : ℕ) → is_in (workers_of ns) z ≡ true → lo ≤ z) → AreValid sc book state ns → lo + length ns ≤ length sc.workers
 few sc book state lo [] le a f v = omega arith
 few sc book state lo (n ∷ ns) le a f v =
@@ -99,21 +99,21 @@ few sc book state lo (n ∷ ns) le a f v =
     let rest = few sc book state (n.worker + 1) ns under' (ascending-rest n.worker (workers_of ns) a) (λ z h. let less : n.worker < z = below-later n.worker (workers_of ns) z a h in omega arith) v.1 in
     omega arith
 
--- what stands at a place of the list, and what stands behind it
+-- the element at a place of the list, and the elements after it
 at-place : (xs : List Worker) (i : ℕ) (y : Worker) (ys : List Worker) → drop i xs ≡ y ∷ ys → (slice_get xs i ≡ Some y) × (drop (suc i) xs ≡ ys)
 at-place [] zero y ys e = cc
 at-place [] (suc i) y ys e = cc
 at-place (x ∷ xs) zero y ys e = (cc, cc)
 at-place (x ∷ xs) (suc i) y ys e = at-place xs i y ys e
 
--- how many stand from a place on
+-- the number of elements from a place on
 long : (xs : List Worker) (i : ℕ) → i ≤ length xs → i + length (drop i xs) ≡ length xs
 long xs i h = simp length-drop (omega arith)
 
 valid-for : (sc : Scenario) (book : BookView) (task : Task) (i : ℕ) (w : Worker) (receipt : Receipt) → slice_get sc.workers i ≡ Some w → IsValidOf sc book task i (Spent receipt) → IsValid book task w (Spent receipt)
 valid-for sc book task i w receipt e h = subst (λ o. MatchOption o ⊥ (λ worker. IsValid book task worker (Spent receipt))) e h
 
--- as many as there are workers: the i-th is worker i's
+-- with as many receipts as workers, receipt i is of worker i
 all-receipts : (sc : Scenario) (book : BookView) (state : CoreState) (task : Task) (lo : ℕ) (ws : List Worker) (ns : List NotedSpent) → task_of sc book state ≡ Some task → drop lo sc.workers ≡ ws → lo + length ns ≡ length sc.workers → is_ascending (workers_of ns) ≡ true → ((z : ℕ) → is_in (workers_of ns) z ≡ true → lo ≤ z) → AreValid sc book state ns → AreReceipts book task ws (map (λ n. n.receipt) ns)
 all-receipts sc book state task lo [] [] e d k a f v = tt
 all-receipts sc book state task lo (w ∷ ws) [] e d k a f v =
@@ -139,7 +139,7 @@ all-receipts sc book state task lo (w ∷ ws) (n ∷ ns) e d k a f v =
       all-receipts sc book state task (lo + 1) ws ns e (ap (λ (i : ℕ). drop i sc.workers) next ∙ place.1) k' (ascending-rest n.worker (workers_of ns) a) (λ z h. subst (λ w. w + 1 ≤ z) same (above z h)) v.1,
     )
 
--- the last worker's Spent: every worker's receipt is valid
+-- the last worker's receipt: every worker has a valid one
 pub noted-last : (sc : Scenario) (book : BookView) (state : CoreState) (x : NotedSpent) → AreNoted sc book state → IsValidSpent sc book state x → is_noted state.noted x.worker ≡ false → (length state.noted + 1 == length sc.workers) ≡ true → MatchOption (task_of sc book state) ⊥ (λ task. IsSettledBy sc book task (Undecided (all_spent state x)))
 noted-last sc book state x h v new last =
     let ns : List NotedSpent = noted_with x state.noted in

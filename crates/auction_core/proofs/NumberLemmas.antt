@@ -1,4 +1,4 @@
--- Neither a query's number nor what an auction keeps beside its clock, map and steps changes a step's fault.
+-- A step's fault depends on the clock, the map and the steps only, not on the query's number or other fields of the state.
 use Rattle.std.proofs.Common.{◌≡◌, ℕ, ◌+◌, ◌==◌, ◌&&◌, if◌then◌else◌, List, [], ◌∷◌, length, Option, Some, None, refl, ap, ap₂}
 use Rattle.std.specs.Prelude.{slice_get}
 use Rattle.std.specs.Option.{option_map_or}
@@ -49,7 +49,7 @@ query-number sc book task n (Refuted w how) firsts = ap (unless (is_empty firsts
 query-number sc book task n (Outside proof) firsts = outside-number book task n proof.log.lines firsts
 query-number sc book task n (Undecided xs) firsts = ap (unless (length xs == length sc.workers && length firsts == length sc.workers) Kind) (each-number book task n sc.workers xs firsts)
 
--- a state with another number, and other receipts noted, tests left, order and start
+-- the state with another number, pending receipts, tests left, order and start
 abbrev pub beside : CoreState → CoreState → CoreState
 beside a b = record b { clock = a.clock; map = a.map; steps = a.steps }
 

@@ -1,4 +1,4 @@
--- A map overwritten on a component of the stations on air stays clean.
+-- A map that is overwritten on a component of the stations on air stays clean.
 use Rattle.std.proofs.Common.{◌≡◌, ℕ, ◌<◌, Bool, true, false, cond, ◌==◌, nat_lt, if◌then◌else◌, List, [], ◌∷◌, map, Some, unwrap_or, refl, sym, ap, ◌∙◌, subst, ⊎_elim, inl, inr, eqb-true, eq-eqb, ne_eqb, arith, ◌⊎◌}
 use Rattle.std.proofs.lemmas.Bool.{and_parts, and_from, or_cases, or_left, or_right, both_ways, cases_order, lt-ltb, ltb-false, false≢true}
 use Rattle.pack_defs.specs.ChannelMap.{channel_of, put}
@@ -12,7 +12,7 @@ restrict_one false s c y rest m f e =
     let other : (y.0 == s) ≡ false = ne_eqb y.0 s (λ same. false≢true (f same)) in
     e ∙ ap (λ b. if b then Some y.1 else channel_of s m) (sym other)
 
--- a map cut to a set has the channels of the set's stations
+-- a restricted map has the same channels on its set
 pub restricted-channel : (s : ℕ) (m : List (ℕ × ℕ)) (set : List ℕ) → is_in set s ≡ true → channel_of s (restricted m set) ≡ channel_of s m
 restricted-channel s [] set h = refl
 restricted-channel s (y ∷ ys) set h =
@@ -46,7 +46,7 @@ channel-from_entry (y ∷ ys) s c a h =
     ] in
     go (y.0 == s) refl
 
--- a map that has a station has an entry of it
+-- a map that has a station has an entry of the station
 pub its-channel : (es : List (ℕ × ℕ)) (s : ℕ) → is_in (map (λ y. y.0) es) s ≡ true → has_entry es (s, unwrap_or (channel_of s es) 0) ≡ true
 its-channel [] s h = h
 its-channel (e ∷ es) s h =
@@ -58,7 +58,7 @@ its-channel (e ∷ es) s h =
     ] in
     go (e.0 == s) refl
 
--- a list with a lesser number before it ascends
+-- an ascending list with a lesser number before it ascends
 pub ascending-cons : (x : ℕ) (xs : List ℕ) → is_ascending xs ≡ true → ((y : ℕ) → is_in xs y ≡ true → x < y) → is_ascending (x ∷ xs) ≡ true
 ascending-cons x [] a f = refl
 ascending-cons x (z ∷ zs) a f =

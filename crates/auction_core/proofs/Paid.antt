@@ -1,4 +1,4 @@
--- What the frozen stations are paid, by a clock's ledger, and that there is room for it.
+-- What the frozen stations are paid, by the clock's ledger, and that the ledger has room for it. For `clock`.
 use Rattle.std.proofs.Common.{◌≡◌, ◌∙◌, ℕ, zero, suc, ◌+◌, ◌-◌, ◌<◌, ◌≤◌, ◌^◌, Bool, true, false, cond, eqb, inl, inr, List, [], ◌∷◌, ◌++◌, length, set, get_or, All, None, map, refl, sym, ap, ap₂, subst, arith, option_map}
 use Rattle.std.specs.List.{count_by, find}
 use Rattle.std.proofs.lemmas.Bool.{eqb-true, eq-eqb}
@@ -44,7 +44,7 @@ offer_at_most sc s r h =
 
 -- ---- what is paid
 
--- a station that is active isn't paid
+-- an active station is not paid
 pub active-unpaid : {sc : Scenario} {st : ClockState} {c : ClockView} (i s : ℕ) → IsClockOf sc st c → i < length sc.stations → get_or (facilities sc) i 0 ≡ s → is_active st s ≡ true → price_of s c.paid ≡ None
 active-unpaid {sc} {st} {c} i s h within at active =
     let none = idle_counts st s (once_at i s h.standings within at) active in
@@ -53,7 +53,7 @@ active-unpaid {sc} {st} {c} i s h within at active =
       | inr f ↦ absurd (omega (arith, none.0, f.4))
     ])
 
--- what is paid where one entry more is the last
+-- payments with one more entry at the end
 price-push : (frozen : List FrozenAt) (new : FrozenAt) (paid : List (ℕ × ℕ)) (s : ℕ) → count_by (λ (x : FrozenAt). eqb x.station new.station) frozen ≡ 0 →
     price_of s paid ≡ option_map (λ (x : FrozenAt). x.price) (find (λ (x : FrozenAt). eqb x.station s) frozen) →
     price_of s (with_price new.station new.price paid) ≡ option_map (λ (x : FrozenAt). x.price) (find (λ (x : FrozenAt). eqb x.station s) (frozen ++ new ∷ []))
@@ -67,7 +67,7 @@ price-push frozen new paid s none h =
           ∙ (h ∙ sym (ap (option_map (λ (x : FrozenAt). x.price)) (find-push_other (λ (x : FrozenAt). eqb x.station s) frozen new other)))
     ]) refl
 
--- a station more is frozen
+-- one more station is frozen
 freezes-paid : (sc : Scenario) (st : ClockState) (t : ClockTest) (paid : List (ℕ × ℕ)) → ArePaid st paid → count_by (λ (x : FrozenAt). eqb x.station t.station) st.frozen ≡ 0 → ArePaid (freezes sc st t) (with_price t.station (offer sc t.station (t.round - 1)) paid)
 freezes-paid sc st t paid h none =
     let price : ℕ = offer sc t.station (t.round - 1) in
@@ -77,14 +77,14 @@ freezes-paid sc st t paid h none =
       sum = sum-with t.station price paid ∙ (ap (λ n. n + price) h.sum ∙ sym (sum_by_push (λ (x : FrozenAt). x.price) st.frozen new));
     }
 
--- one that goes on air is paid nothing
+-- a station that goes on air is paid nothing
 airs-paid : (sc : Scenario) (st : ClockState) (t : ClockTest) (paid : List (ℕ × ℕ)) → ArePaid st paid → ArePaid (after_answer sc st t true) paid
 airs-paid sc st t paid h = elim (exits sc t) as (λ b. ArePaid (cond b (goes_on_air st t) st) paid) [
   | true ↦ record { each = h.each; sum = h.sum }
   | false ↦ h
 ]
 
--- once a test of an active station is answered, the clock is that of the state after it
+-- the clock after an answer is that of the state after it
 pub answer-clock : {sc : Scenario} {st : ClockState} {c : ClockView} (i : ℕ) (t : ClockTest) (fits : Bool) → StationsAscend sc → IsClockOf sc st c → i < length sc.stations → get_or (facilities sc) i 0 ≡ t.station → is_active st t.station ≡ true →
     IsClockOf sc (after_answer sc st t fits) (answered_clock sc t i fits c)
 answer-clock {sc} {st} {c} i t true ascend h within at active = record {
@@ -105,7 +105,7 @@ opening-made sc xs paid same none ascend =
     let made : List Standing → List (ℕ × ℕ) → ClockView = λ ys es. record { standings = ys; paid = es } in
     subst (IsClockOf sc (opening_state sc)) (sym (ap₂ made same none)) (opening-clock sc (map (opening_standing sc) sc.stations) (opening-standings sc ascend))
 
--- a station and its price, by two names each
+-- a clock view with these standings and this payment added
 abbrev pub paying : List Standing → List (ℕ × ℕ) → ℕ → ℕ → ClockView
 paying xs paid s price = record { standings = xs; paid = with_price s price paid }
 
@@ -114,14 +114,14 @@ frozen-view xs paid e f = ap₂ (paying xs paid) e f
 
 -- ---- the room
 
--- an active station takes up room
+-- an active station needs room
 pub room-some : (xs : List Standing) (i : ℕ) → i < length xs → get_or xs i Active ≡ Active → 1 ≤ count_by stands_active xs
 room-some xs i within active =
     let moved = sum_by-set (λ x. cond (stands_active x) 1 0) xs i (OnAir 0) Active within in
     let own : cond {A = ℕ} (stands_active (get_or xs i Active)) 1 0 ≡ 1 = ap (λ x. cond (stands_active x) 1 0) active in
     omega (arith, moved, own)
 
--- where another standing takes the place of an active one, one station fewer is still asked, and the frozen are those and itself
+-- replacing an active standing leaves one active station fewer, and one frozen station more if the new standing is frozen
 set-counts : (xs : List Standing) (i : ℕ) (y : Standing) → i < length xs → get_or xs i Active ≡ Active → stands_active y ≡ false → (count_by stands_active (set xs i y) + 1 ≡ count_by stands_active xs) × (count_by stands_frozen (set xs i y) ≡ count_by stands_frozen xs + cond (stands_frozen y) 1 0)
 set-counts xs i y within active other =
     let asked = sum_by-set (λ x. cond (stands_active x) 1 0) xs i y Active within in
@@ -148,7 +148,7 @@ freeze-room xs old new i r s price h within active small paid spare =
     let sum : sum_paid new.paid ≡ sum_paid old.paid + price = ap sum_paid paid ∙ sum-with s price old.paid in
     record { room = omega (arith, room, counts.0, spare); bound = omega (arith, bound, counts.1, sum, small) }
 
--- one price more stays within 64 bits
+-- one more price stays within 64 bits
 pub price-fits : (xs : List Standing) (l : LedgerView) (price : ℕ) → HasRoomToPay xs l → length xs ≤ 8192 → price ≤ most_paid → sum_paid l.paid + price < 2 ^ 64
 price-fits xs l price h few small =
     let bound = h.bound in

@@ -1,4 +1,4 @@
--- The labels of the parts on air, beside the stations' places.
+-- The labels of the components on air, and the slots of the stations. For `parts`.
 use Rattle.std.proofs.Common.{◌≡◌, ℕ, zero, suc, ◌+◌, ◌<◌, ◌≤◌, Bool, true, false, not, ◌==◌, ◌&&◌, ◌||◌, nat_le, if◌then◌else◌, List, [], ◌∷◌, ◌++◌, map, take, length, get_or, Contains, refl, sym, ap, ◌∙◌, subst, ⊎_elim, eqb-true, eq-eqb, ne_eqb, arith, append_assoc, append-nil}
 use Rattle.std.specs.Prelude.{slice_set}
 use Rattle.std.specs.List.{list_any}
@@ -60,7 +60,7 @@ label-map (f ∷ fs) (l ∷ ls) g z none =
       | false ↦ label-map fs ls g z none
     ]
 
--- ---- the first so many are swapped
+-- ---- the first n labels are replaced
 
 abbrev pub swapped_first : ℕ → ℕ → ℕ → List ℕ → List ℕ
 swapped_first zero old new xs = xs
@@ -141,7 +141,7 @@ pub merged-push : (label : ℕ → ℕ) (vs : List ℕ) (v n : ℕ) → merged_l
 merged-push label [] v n = refl
 merged-push label (w ∷ vs) v n = merged-push (merged_label label w n) vs v n
 
--- one station more
+-- one more station
 pub merged-take : (L M N : ℕ → ℕ) (vs : List ℕ) (i n d : ℕ) → i < length vs → M ≡ merged_labels L (take i vs) n → N ≡ merged_label M (get_or vs i d) n → N ≡ merged_labels L (take (i + 1) vs) n
 merged-take L M N vs i n d inside so_far step =
     step
@@ -149,16 +149,16 @@ merged-take L M N vs i n d inside so_far step =
     ∙ (sym (merged-push L (take i vs) (get_or vs i d) n)
     ∙ ap (λ ws. merged_labels L ws n) (sym (take_more vs i d inside))))
 
--- ---- one after another, and at once
+-- ---- merging one after another, and at once
 
--- one of these is on air, in a part of this label
+-- one of these stations is on air in a component with this label
 abbrev pub meets : (ℕ → ℕ) → List ℕ → ℕ → Bool
 meets label vs l = list_any (λ v. not (label v == 0) && (label v == l)) vs
 
 abbrev at_once : (ℕ → ℕ) → List ℕ → ℕ → ℕ → ℕ
 at_once label vs n z = if meets label vs (label z) then n else label z
 
--- the truth of one step
+-- the cases of one step
 step-cases : (m l k n : ℕ) (any_v any_z : Bool) → (k ≡ l → any_v ≡ any_z) →
     (if not ((if any_v then n else k) == 0) && ((if any_v then n else k) == (if any_z then n else l)) then n else (if any_z then n else l))
     ≡ (if any_z || ((not (k == 0) && (k == l)) || false) then n else l)
@@ -182,16 +182,16 @@ at-once-push label vs v n z =
     step-cases 0 (label z) (label v) n (meets label vs (label v)) (meets label vs (label z)) (λ e. ap (meets label vs) e)
     ∙ ap (λ b. if b then n else label z) (sym (list_any-append (λ w. not (label w == 0) && (label w == label z)) vs (v ∷ [])))
 
--- merging one after another from the right place on
+-- merging one after another, continued from merging at once
 merged-from : (label : ℕ → ℕ) (vs ws : List ℕ) (n z : ℕ) → merged_labels (at_once label vs n) ws n z ≡ at_once label (vs ++ ws) n z
 merged-from label vs [] n z = ap (λ xs. at_once label xs n z) (sym (append-nil vs))
 merged-from label vs (w ∷ ws) n z =
     let same : merged_label (at_once label vs n) w n ≡ at_once label (vs ++ w ∷ []) n = λ i y. at-once-push label vs w n y i in
     ap (λ f. merged_labels f ws n z) same ∙ (merged-from label (vs ++ w ∷ []) ws n z ∙ ap (λ xs. at_once label xs n z) (append_assoc vs (w ∷ []) ws))
 
--- ---- by the neighbours that a book has
+-- ---- by the neighbours in the book
 
--- the list has just the stations that interfere with this one
+-- the list has exactly the stations that interfere with this one
 abbrev pub ListsNear : BookView → ℕ → List ℕ → Type 0
 ListsNear book u near = (t : ℕ) → is_in near t ≡ interferes book u t
 
@@ -214,7 +214,7 @@ meets-touches book parts u l near listed = same-truth _ _
     list_any-from (λ w. not (label_of parts w == 0) && (label_of parts w == l)) near v (is_in-gives near v (listed v ∙ both.0))
     (and_from (not (label_of parts v == 0)) (label_of parts v == l) (Contains-from_filter (λ w. not (label_of parts w == 0)) parts.stations v there).1 both.1))
 
--- the labels once the station's parts are merged and it has its own
+-- the labels once the station's components are merged and it has its own label
 pub joined-is : (book : BookView) (parts : PartsView) (u n z : ℕ) (near : List ℕ) → ListsNear book u near → (if z == u then n else merged_labels (label_of parts) near n z) ≡ relabelled book (labelled parts) (label_of parts) u n z
 joined-is book parts u n z near listed =
     let same : merged_labels (label_of parts) near n z ≡ (if touches book (labelled parts) (label_of parts) u (label_of parts z) then n else label_of parts z) =
@@ -226,7 +226,7 @@ joined-is book parts u n z near listed =
 
 -- ---- since when
 
--- one of the stations near it has this label or a greater one
+-- a neighbour has this label or a greater one
 pub since-is : (book : BookView) (parts : PartsView) (u time : ℕ) (near : List ℕ) → ListsNear book u near → 0 < time → list_any (λ v. nat_le time (label_of parts v)) near ≡ touches_since book parts u time
 since-is book parts u time near listed some = same-truth _ _
     (λ h.

@@ -1,4 +1,4 @@
--- What is kept of the tests so far, once one test more is settled.
+-- The test history once one more test is settled. For `past::note`.
 use Rattle.std.proofs.Common.{◌≡◌, ℕ, zero, suc, ◌<◌, true, false, ◌==◌, if◌then◌else◌, List, [], ◌∷◌, ◌++◌, length, set, get_or, Option, Some, None, is_some, unwrap_or, refl, sym, ap, ◌∙◌, ⊎_elim, eq-eqb, ne_eqb, arith}
 use Rattle.std.proofs.lemmas.Bool.{cases_eq, cond-true, cond-false}
 use Rattle.std.proofs.lemmas.List.{length-set, get_or-set_same, get_or-set_other}
@@ -14,7 +14,7 @@ use Rattle.auction_core.proofs.StepLines.{fit-still, fit-told, told-grows}
 
 -- ---- how many were on air
 
--- the test at this place has seen them
+-- the test at this place has seen them all
 pub now-seen : (stations : List ℕ) (on_air : ℕ) (seen : List ℕ) (place : ℕ) → place < length stations → AreSeen stations on_air seen → AreSeen stations on_air (set seen place on_air)
 now-seen stations on_air seen place inside h = record {
   long = length-set seen place on_air ∙ h.long;
@@ -31,9 +31,9 @@ now-seen stations on_air seen place inside h = record {
       (cases_eq i place);
 }
 
--- ---- where the last fits were told
+-- ---- where the last fits are
 
--- no number of it stands at two places
+-- no number is at two places of an ascending list
 one-place : (xs : List ℕ) (i k : ℕ) → is_ascending xs ≡ true → i < length xs → k < length xs → get_or xs i 0 ≡ get_or xs k 0 → i ≡ k
 one-place [] i k up a b e = absurd (omega arith)
 one-place (x ∷ xs) zero zero up a b e = refl
@@ -41,7 +41,7 @@ one-place (x ∷ xs) zero (suc k) up a b e = let less = after-first x xs k up (o
 one-place (x ∷ xs) (suc i) zero up a b e = let less = after-first x xs i up (omega arith) in absurd (omega (arith, less, e))
 one-place (x ∷ xs) (suc i) (suc k) up a b e = ap suc (one-place xs i k (ascending-rest x xs up) (omega arith) (omega arith) e)
 
--- a test that is not shown by a fit
+-- a test that is not settled by a fit
 unfit-push : (steps : List Step) (x : Step) (s : ℕ) → fit_of x.shown ≡ None → last_fit (steps ++ x ∷ []) s [] ≡ last_fit steps s []
 unfit-push steps x s none =
     last_fit-push steps x s []
@@ -63,7 +63,7 @@ no-fit-more stations steps told fits x unfit h = record {
     none-is None e = refl
     none-is (Some m) e = cc
 
--- a test that is
+-- a test that is settled by a fit
 fit-push : (steps : List Step) (x : Step) (s : ℕ) → is_some (fit_of x.shown) ≡ true → x.station ≡ s → last_fit (steps ++ x ∷ []) s [] ≡ unwrap_or (fit_of x.shown) []
 fit-push steps x s fit own =
     last_fit-push steps x s []

@@ -1,4 +1,4 @@
--- The entries of the stations that have a channel at their place.
+-- The channel map entries of the stations that have a channel in their slot. For `air_map`.
 use Rattle.std.proofs.Common.{◌≡◌, ℕ, zero, suc, ◌+◌, ◌<◌, ◌≤◌, true, false, ◌==◌, nat_lt, List, [], ◌∷◌, ◌++◌, drop, length, get_or, slice_set, Option, Some, None, MatchOption, Result, Ok, Err, refl, sym, ap, ◌∙◌, subst, arith, eq-eqb, ne_eqb, append_assoc, append-nil}
 use Rattle.std.specs.List.Sorted.{IsBinarySearchResult, IsSearchInRange}
 use Rattle.std.specs.Ordering.{nat_cmp}
@@ -36,15 +36,15 @@ placed-ascending (s ∷ ss) [] a = refl
 placed-ascending (s ∷ ss) (None ∷ cs) a = placed-ascending ss cs (ascending-rest s ss a)
 placed-ascending (s ∷ ss) (Some c ∷ cs) a = placed-above s ss cs a
 
--- a number below all others isn't one of them
+-- a number below all others is not one of them
 pub not-above : (s : ℕ) (xs : List ℕ) → is_ascending (s ∷ xs) ≡ true → is_in xs s ≡ false
 not-above s xs a = false_from_ne_true (is_in xs s) (λ h. let less : s < s = below-later s xs s a h in absurd (omega arith))
 
--- and no entry is of one that is below all
+-- no entry is of a station below all others
 pub none-above : (s : ℕ) (es : List (ℕ × ℕ)) → is_ascending (s ∷ stations es) ≡ true → channel_of s es ≡ None
 none-above s es a = channel_of-none es s (not-above s (stations es) a)
 
--- ---- the channel of a station is the one at its place
+-- ---- the channel of a station is the one in its slot
 
 channel-there : (ss : List ℕ) (cs : List (Option ℕ)) (i : ℕ) (d : Option ℕ) → is_ascending ss ≡ true → length cs ≡ length ss → i < length ss → channel_of (get_or ss i 0) (placed_entries ss cs) ≡ get_or cs i d
 channel-there [] cs i d a e l = absurd (omega arith)
@@ -68,7 +68,7 @@ channel-out (x ∷ ss) (Some c ∷ cs) s h =
     let parts = or_parts (x == s) (is_in ss s) h in
     cond-false (x == s) (Some c) (channel_of s (placed_entries ss cs)) parts.0 ∙ channel-out ss cs s parts.1
 
--- ---- a channel put at a place
+-- ---- a channel put into a slot
 
 put-first : (x : ℕ × ℕ) (es : List (ℕ × ℕ)) → is_ascending (x.0 ∷ stations es) ≡ true → put x es ≡ x ∷ es
 put-first x [] a = refl
@@ -89,7 +89,7 @@ put-there (s ∷ ss) (Some d ∷ cs) (suc i) c a e l =
 pub put-at : (ss : List ℕ) (cs : List (Option ℕ)) (i s c : ℕ) → is_ascending ss ≡ true → length cs ≡ length ss → (i < length ss) × (get_or ss i 0 ≡ s) → placed_entries ss (slice_set cs i (Some c)) ≡ put (s, c) (placed_entries ss cs)
 put-at ss cs i s c a e at = subst (λ t. placed_entries ss (slice_set cs i (Some c)) ≡ put (t, c) (placed_entries ss cs)) at.1 (put-there ss cs i c a e at.0)
 
--- no entry without channels, and none more where one more station has none
+-- without channels there is no entry
 pub none-anywhere : (ss : List ℕ) → placed_entries ss [] ≡ []
 none-anywhere [] = refl
 none-anywhere (s ∷ ss) = refl
@@ -100,7 +100,7 @@ none-more (s ∷ ss) [] = none-anywhere ss
 none-more (s ∷ ss) (None ∷ cs) = none-more ss cs
 none-more (s ∷ ss) (Some c ∷ cs) = ap (λ (es : List (ℕ × ℕ)). (s, c) ∷ es) (none-more ss cs)
 
--- ---- one place more
+-- ---- one more slot
 
 -- the entry of a station, if it has a channel, before others
 abbrev pub with_own : ℕ → Option ℕ → List (ℕ × ℕ) → List (ℕ × ℕ)
@@ -118,7 +118,7 @@ places-more ss cs i o e l is =
     own s None ss cs = refl
     own s (Some c) ss cs = refl
 
--- ---- all the entries, place by place
+-- ---- all entries, slot by slot
 
 pub place-passed : (ss : List ℕ) (cs : List (Option ℕ)) (done all : List (ℕ × ℕ)) (i : ℕ) (o : Option ℕ) → length cs ≡ length ss → i < length ss → o ≡ get_or cs i o → o ≡ None → done ++ placed_entries (drop i ss) (drop i cs) ≡ all → done ++ placed_entries (drop (i + 1) ss) (drop (i + 1) cs) ≡ all
 place-passed ss cs done all i o e l is none h =

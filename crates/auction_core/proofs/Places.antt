@@ -1,4 +1,4 @@
--- What a search by halves finds among ascending stations.
+-- What a binary search finds among ascending stations. For `station_list`.
 use Rattle.std.proofs.Common.{◌≡◌, ℕ, ◌<◌, ◌≤◌, false, List, map, length, get_or, Result, Ok, Err, None, MatchOption, sym, ◌∙◌, arith, inl, inr}
 use Rattle.std.specs.List.Sorted.{IsBinarySearchResult, IsNonDecreasingBy, IsSearchInRange, IsStrictlyIncreasing}
 use Rattle.std.specs.Ordering.{nat_cmp, ordering_index}
@@ -13,7 +13,7 @@ use Rattle.pack_defs.specs.declared.station.Station.{Station}
 use Rattle.pack_defs.specs.Lists.{is_in}
 use Rattle.pack_defs.proofs.Members.{is_in-gives}
 
--- a station of number 0
+-- a station with number 0
 abbrev blank : Station
 blank = record { id = 0; volume = 0; value = None }
 

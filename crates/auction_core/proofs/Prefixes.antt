@@ -1,4 +1,4 @@
--- The state that some first steps leave keeps the clock rule.
+-- The state after some first steps keeps the clock rule. For `laws` and `auction::resume`.
 use Rattle.std.proofs.Common.{◌≡◌, ℕ, suc, ◌+◌, Bool, true, false, if◌then◌else◌, List, [], ◌∷◌, ◌++◌, map, length, take, drop, Option, Some, None, refl, sym, ap, ◌∙◌, subst, append_assoc, append-nil}
 use Rattle.std.specs.Option.{option_map_or}
 use Rattle.std.proofs.lemmas.Bool.{both_ways}
@@ -23,11 +23,11 @@ use Rattle.auction_core.proofs.Done.{asked-apart, apart-first, AreListed, listed
 use Rattle.auction_core.proofs.Keeps.{first-walk, from-parts, none-noted, go-on-start, opening-keeps}
 use Rattle.auction_core.proofs.GoesOn.{goes-self, goes-same, goes-then, go-on-goes, started-goes}
 
--- the state stands where the rule comes to, and its steps begin with these
+-- the state is where the rule leads, and its steps begin with these
 abbrev Through : Scenario → BookView → Shown → CoreState → List Step → CoreState → Type 0
 Through sc book start state xs new = IsUnderWay sc book start new × GoesOn (record state { steps = state.steps ++ xs }) new
 
--- going through tests with the steps of those that the rule asks leads where the rule comes to
+-- going through tests with the steps of those that the rule asks leads to where the rule leads
 through : (sc : Scenario) (book : BookView) (start : Shown) (U ts : List ClockTest) (xs : List Step) (state : CoreState) (before : List ClockTest) → IsAuction sc book → IsWalked sc book start state before → clock_tests sc state.order ≡ before ++ ts →
     map test_of xs ≡ take (length xs) (asked_from sc book U ts state.clock) → AreShown sc book state xs → AreListed U xs →
     Through sc book start state xs (go_through sc book ts xs state)
@@ -59,7 +59,7 @@ through sc book start U (t ∷ ts) (x ∷ xs) state before a w parts tests shown
     ] in
     go (is_active state.clock t.station) refl tests
 
--- going through tests notes nothing
+-- going through tests adds no pending receipt
 through-noted : (sc : Scenario) (book : BookView) (ts : List ClockTest) (xs : List Step) (state : CoreState) → (go_through sc book ts xs state).noted ≡ state.noted
 through-noted sc book ts [] state = (go-on-start sc book ts state).1
 through-noted sc book [] (x ∷ xs) state = refl
@@ -69,12 +69,12 @@ through-noted sc book (t ∷ ts) (x ∷ xs) state =
       | false ↦ through-noted sc book ts (x ∷ xs) state
     ]
 
--- what is shown of steps doesn't hang on the number
+-- whether steps are properly settled does not depend on the number
 AreShown-number : (sc : Scenario) (book : BookView) (state : CoreState) (n : ℕ) (xs : List Step) → AreShown sc book state xs → AreShown sc book (record state { number = n }) xs
 AreShown-number sc book state n [] h = tt
 AreShown-number sc book state n (x ∷ xs) h = (IsStepShown-same sc book (record state { number = n }) state x refl refl refl h.0, AreShown-number sc book (settled sc state (test_of x) x.shown) n xs h.1)
 
--- a start shown so, and its steps
+-- a state with this start and these steps
 abbrev kept_of : Scenario → Order → Option Shown → List Step → CoreState
 kept_of sc order start steps = record (before_start sc order) { start = start; steps = steps }
 
@@ -86,7 +86,7 @@ opening-goes sc book order =
       | Some shown ↦ started-goes sc book (before_start sc order) shown refl
     ]
 
--- the state once the start set was shown to fit, and the steps were gone through
+-- the state once the start set was shown to fit and the steps were gone through
 running : (sc : Scenario) (book : BookView) (order : Order) (start : Shown) (steps : List Step) (n : ℕ) → IsAuction sc book → IsPrefix sc book order (Some start) steps → shows_room start ≡ true →
     Through sc book start (record (after_start sc order start) { number = n }) steps (go_through sc book (clock_tests sc order) steps (record (after_start sc order start) { number = n }))
 unfolding asked_tests

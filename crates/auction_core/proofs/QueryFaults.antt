@@ -1,4 +1,4 @@
--- A query that stands, and what settles it.
+-- The current query, and what settles it. For `step_check`.
 use Rattle.std.proofs.Common.{◌≡◌, ◌==◌, ◌&&◌, ℕ, Bool, true, false, List, [], ◌∷◌, Option, Some, None, is_none, if◌then◌else◌, MatchOption, refl, sym, ap, subst, eqb-true}
 use Rattle.std.proofs.lemmas.Bool.{and_parts}
 use Rattle.std.proofs.lemmas.Option.{none-some}
@@ -15,7 +15,7 @@ use Rattle.auction_core.specs.Checked.{is_about}
 use Rattle.auction_core.specs.NotShown.{query_fault}
 use Rattle.auction_core.proofs.StepLemmas.{query-shown}
 
--- where a query stands the auction has not ended
+-- if there is a current query, the auction has not ended
 pub standing : (sc : Scenario) (book : BookView) (state : CoreState) (task : Task) → task_of sc book state ≡ Some task → has_ended state ≡ false
 unfolding task_of
 standing sc book state task e = go (is_none state.start) state.left e
@@ -31,7 +31,7 @@ settles sc sc' book book' state state' task shown shown' es eb et is same settle
     let here : SettlesQuery sc book state shown' = subst (λ (o : Option Task). MatchOption o ⊥ (λ task. IsSettledBy sc book task shown')) (sym is) (subst (IsSettledBy sc book task) (sym same) settled) in
     subst (λ s. SettlesQuery s book' state' shown') (sym es) (subst (λ b. SettlesQuery sc b state' shown') (sym eb) (subst (λ st. SettlesQuery sc book st shown') (sym et) here))
 
--- a query that is about a station
+-- a query about a station
 about-is : (o : Option ℕ) (s : ℕ) → is_about o s ≡ true → o ≡ Some s
 about-is None s e = absurd cc
 about-is (Some t) s e = ap Some (eqb-true t s e)

@@ -1,4 +1,4 @@
--- The standing query is one that a solver may be asked; and what is left once it is answered.
+-- The current query may be put to a solver; and how many queries are left once it is answered.
 use Rattle.std.proofs.Common.{◌≡◌, ◌∙◌, ℕ, ◌+◌, ◌<◌, ◌≤◌, Bool, true, false, not, cond, ◌&&◌, ◌||◌, ◌==◌, ◌⊎◌, inl, inr, List, [], ◌∷◌, length, map, find, Option, Some, None, is_none, option_map, refl, sym, ap, subst, arith, Contains, MatchOption}
 use Rattle.std.specs.Prelude.{⊤}
 use Rattle.std.specs.List.{list_all}
@@ -71,7 +71,7 @@ start-query sc book state a h =
 
 -- ---- the query of a test
 
--- a map stays clean on a part of its stations
+-- a clean map restricted to some of its stations is clean
 part-clean : (book : BookView) (m : List (ℕ × ℕ)) (set : List ℕ) → IsClean book m → IsClean book (restricted m set)
 part-clean book m set clean = record {
   on_domain = λ x k. clean.on_domain x (Contains-from_filter (λ (e : ℕ × ℕ). is_in set e.0) m x k).0;
@@ -82,7 +82,7 @@ second-none : {A : Type 0} (a b : Option A) → option_or a b ≡ None → b ≡
 second-none None b e = e
 second-none (Some x) b e = cc
 
--- and a clean map violates no pair
+-- a clean map violates no pair
 none-violates : (book : BookView) (m : List (ℕ × ℕ)) → IsClean book m → violation book m ≡ None
 unfolding first_fault
 none-violates book m clean =
@@ -92,7 +92,7 @@ none-violates book m clean =
     (second-none (missing set m) (option_or (extra set m) (option_or (off_domain book m) (violation book m)))
     (faultless book set m (on-stations book set m refl clean))))
 
--- a station of the set that the map has is one of its part there
+-- a station of the set that the map has is in the restricted map
 part-has : (m : List (ℕ × ℕ)) (set : List ℕ) (s : ℕ) → is_in set s ≡ true → is_in (map (λ x. x.0) m) s ≡ true → has_station (restricted m set) s ≡ true
 part-has m set s own h =
     let (x, listed, is) = Contains-from_map (λ (e : ℕ × ℕ). e.0) m s (is_in-gives (map (λ (e : ℕ × ℕ). e.0) m) s h) in
@@ -117,7 +117,7 @@ asked-on_air sc book state t s stations h =
       | inr same ↦ inr same
     ]
 
--- so it has a channel
+-- each of these stations has a channel
 asked-channel : (sc : Scenario) (book : BookView) (state : CoreState) (t : ClockTest) (s : ℕ) → IsClean book state.map → map (λ x. x.0) state.map ≡ on_air_set sc state.clock → is_empty (domain_of book t.station) ≡ false → is_in (component book (asked_set sc state.clock t.station) t.station) s ≡ true → is_empty (domain_of book s) ≡ false
 asked-channel sc book state t s clean stations own h =
     elim (asked-on_air sc book state t s stations h) [
@@ -125,7 +125,7 @@ asked-channel sc book state t s clean stations own h =
       | inr same ↦ subst (λ z. is_empty (domain_of book z) ≡ false) (sym (eqb-true s t.station same)) own
     ]
 
--- and is the tested one or stands in the last map
+-- each of these stations is the tested one or in the last map
 asked-there : (sc : Scenario) (book : BookView) (state : CoreState) (t : ClockTest) (set : List ℕ) (s : ℕ) → map (λ x. x.0) state.map ≡ on_air_set sc state.clock → set ≡ component book (asked_set sc state.clock t.station) t.station → is_in set s ≡ true → ((s == t.station) || has_station (restricted state.map set) s) ≡ true
 asked-there sc book state t set s stations is h =
     elim (asked-on_air sc book state t s stations (subst (λ xs. is_in xs s ≡ true) is h)) [
@@ -153,7 +153,7 @@ test-query sc book state t a clean stations own =
     let others : has_others (Some t.station) set (restricted state.map set) ≡ true = list_all-from (λ s. (s == t.station) || has_station (restricted state.map set) s) set (λ s listed. asked-there sc book state t set s stations refl (is_in-from set s listed)) in
     from-parts book state.number t.round (Some t.station) set (restricted state.map set) rises channels on (none-violates book (restricted state.map set) (part-clean book state.map set clean)) others
 
--- ---- the standing query
+-- ---- the current query
 
 pub task-query : (sc : Scenario) (book : BookView) (state : CoreState) → IsOfAuction sc book → KeepsTheRule sc book state → MatchOption (task_of sc book state) ⊤ (MayBeAsked book)
 task-query sc book state a k =
@@ -177,7 +177,7 @@ task-query sc book state a k =
     ] in
     subst (λ o. MatchOption o ⊤ (MayBeAsked book)) (sym (task-is sc book state state.start state.left refl refl)) (go state.start state.left refl refl (rule-kept sc book state k).stands)
 
--- so of what the program keeps
+-- the same for a query session
 pub clockwork-query : (s : SetupView) (c : CourseView) (number : ℕ) (v : ClockworkView) → IsClockwork s c number → record { scenario = s.scenario; book = s.book; state = core_state s c number; ready = is_roomy s c } ≡ v → MatchOption (task_of v.scenario v.book v.state) ⊤ (MayBeAsked v.book)
 clockwork-query s c number v h e =
     subst (λ (w : ClockworkView). MatchOption (task_of w.scenario w.book w.state) ⊤ (MayBeAsked w.book)) e
@@ -205,7 +205,7 @@ started-number sc book state shown =
       | false ↦ refl
     ]
 
--- a settled query is followed by one of the next number
+-- a settled query is followed by one with the next number
 pub answered-number : (sc : Scenario) (book : BookView) (state : CoreState) (shown : Shown) → (answered sc book state shown).number ≡ state.number + 1
 answered-number sc book state shown =
     let next : CoreState = record state { noted = []; number = state.number + 1 } in
@@ -225,7 +225,7 @@ started-most sc book state shown =
       | false ↦ omega arith
     ]
 
--- ---- and there are fewer queries yet
+-- ---- fewer queries are left
 
 pub answered-fewer : (sc : Scenario) (book : BookView) (state : CoreState) (shown : Shown) → has_ended state ≡ false → queries_left sc (answered sc book state shown) < queries_left sc state
 answered-fewer sc book state shown on =

@@ -1,4 +1,4 @@
--- Receipts that are checked one after another.
+-- Receipts that are checked one after another. For `receipts`.
 use Rattle.std.proofs.Common.{◌≡◌, ◌<◌, ◌+◌, ◌==◌, ◌∷◌, ℕ, List, Bool, true, false, if◌then◌else◌, Option, Some, None, option_map, refl, sym, subst, ◌∙◌, length, drop, get_or}
 use Rattle.std.proofs.lemmas.List.{drop_more, get_or_default}
 use Rattle.pack_defs.specs.declared.worker.Worker.{Worker}
@@ -20,7 +20,7 @@ numbered-is : (b : Bool) (fault : Option Place) → numbered_fault b fault ≡ (
 numbered-is true fault = refl
 numbered-is false fault = refl
 
--- the faults of the receipts from this place on, by the first of them
+-- the first error of the receipts from this place on
 pub each-next : (book : BookView) (task : Task) (ws : List Worker) (x : Receipt) (xs : List Receipt) (ns : List ℕ) (i : ℕ) (w : Worker) (n clauses : ℕ) (right : Bool) → i < length ws → i < length ns
     → w ≡ get_or ws i w → n ≡ get_or ns i 0 → clauses ≡ clauses_in book task.set → right ≡ (n == first_of clauses x)
     → each_fault book task (drop i ws) (x ∷ xs) (drop i ns) ≡ first_place_or (numbered_fault right (answer_fault book task w (Spent x))) (each_fault book task (drop (i + 1) ws) xs (drop (i + 1) ns))
@@ -39,7 +39,7 @@ pub rest-told : (a b : Option Place) → a ≡ None → first_place_or a b ≡ b
 rest-told None b e = refl
 rest-told (Some place) b e = absurd cc
 
--- a receipt that is not let through tells the first fault of all
+-- a rejected receipt has the first error of all
 pub err-told : (e : StepErr) (book : BookView) (task : Task) (ws : List Worker) (x : Receipt) (rest : List Receipt) (ns : List ℕ) (i clauses : ℕ) (d : Worker) (right : Bool) (all : Option Place)
     → i < length ws → i < length ns → clauses ≡ clauses_in book task.set → right ≡ (get_or ns i 0 == first_of clauses x)
     → each_fault book task (drop i ws) (x ∷ rest) (drop i ns) ≡ all

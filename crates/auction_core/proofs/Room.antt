@@ -1,4 +1,4 @@
--- A shown verdict is the clock rule's answer, and the map follows it.
+-- How a test was settled agrees with the clock rule's answer, and the map follows it.
 use Rattle.std.proofs.Common.{◌≡◌, ℕ, Bool, true, false, ◌==◌, ◌||◌, if◌then◌else◌, List, [], ◌∷◌, map, Option, Some, None, Contains, refl, sym, ap, ◌∙◌, subst, ⊎_elim, inl, inr, eqb-true, eq-eqb, ne_eqb, MatchOption}
 use Rattle.std.specs.Prelude.{slice_get}
 use Rattle.std.proofs.lemmas.Bool.{or_cases, or_left, or_right, false_from_ne_true, cases_eq, cases_Bool, cond-true, cond-false}
@@ -38,7 +38,7 @@ use Rattle.auction_core.proofs.Merged.{restricted-ascending, IsTest, merged-clea
 use Rattle.auction_core.proofs.Answers.{filter-in, in-filter, component-ascending, clean-fits}
 use Rattle.auction_core.proofs.Sets.{step_of, delta-fits, unasked-cases}
 
--- a clean map of the stations on air, and a station of the scenario that isn't on air
+-- a clean map of the stations on air, and a station of the scenario that is not on air
 pub record IsReady (sc : Scenario) (book : BookView) (state : CoreState) (s : ℕ) : Type 0 where
   pub auction : IsAuction sc book
   pub clean : IsClean book state.map
@@ -68,7 +68,7 @@ on-air-fits : (sc : Scenario) (book : BookView) (state : CoreState) (s : ℕ) �
 on-air-fits sc book state s r =
     fits-from book (on_air_set sc state.clock) (record { entries = state.map; stations = r.stations; clean = r.clean })
 
--- the test of s asks no more than whether its component fits
+-- the test of s asks only whether its component fits
 by-component : (sc : Scenario) (book : BookView) (state : CoreState) (s : ℕ) → IsReady sc book state s → fits book (asked_set sc state.clock s) ≡ fits book (component book (asked_set sc state.clock s) s)
 by-component sc book state s r = test_by_component sc book state.clock s r.known (on-air-fits sc book state s r)
 
@@ -121,7 +121,7 @@ pub no-element : (xs : List ℕ) → is_empty xs ≡ true → xs ≡ []
 no-element [] e = refl
 no-element (x ∷ xs) e = cc
 
--- a verdict that says that it doesn't fit, and isn't undecided, shows so
+-- a test that is settled as not fitting, and is not undecided, does not fit
 no-fit : (sc : Scenario) (book : BookView) (state : CoreState) (t : ClockTest) (shown : Shown) → IsReady sc book state t.station → IsStepShown sc book state (step_of t shown) → is_undecided shown ≡ false → shows_room shown ≡ false → fits book (asked_set sc state.clock t.station) ≡ false
 no-fit sc book state t shown r h u out =
     let set : List ℕ = component book (asked_set sc state.clock t.station) t.station in
@@ -143,7 +143,7 @@ no-fit sc book state t shown r h u out =
     by-query (Outside proof) k u out = refuted-room sc book state t.station r (outside-refutes book (component book (asked_set sc state.clock t.station) t.station) proof (component-ascending book (asked_set sc state.clock t.station) t.station (asked-rises sc book state t.station r)) k)
     by-query (Undecided receipts) k u out = cc
 
--- a decided verdict is the rule's answer
+-- if a test is decided, its answer is the rule's
 pub room : (sc : Scenario) (book : BookView) (state : CoreState) (t : ClockTest) (shown : Shown) → IsReady sc book state t.station → FitsStand sc book state → is_active state.clock t.station ≡ true → IsStepShown sc book state (step_of t shown) → is_undecided shown ≡ false → fits book (asked_set sc state.clock t.station) ≡ shows_room shown
 room sc book state t shown r f active h u =
     ⊎_elim
@@ -170,7 +170,7 @@ now-on-air st t =
     list_any-append (λ (x : OnAirSince). x.station == t.station) st.on_air (record { station = t.station; round = t.round } ∷ []) ∙
     or_right (is_on_air st t.station) ((t.station == t.station) || false) (or_left (t.station == t.station) false (eq-eqb t.station t.station refl))
 
--- a clean map of the stations that are on air in this state of the clock
+-- a clean map of exactly the stations on air in this state of the clock
 abbrev pub IsOf : Scenario → BookView → ClockState → List (ℕ × ℕ) → Type 0
 IsOf sc book clock entries = IsClean book entries × (map (λ x. x.0) entries ≡ on_air_set sc clock)
 
@@ -178,11 +178,11 @@ stays : (sc : Scenario) (book : BookView) (state : CoreState) (s : ℕ) (clock :
 stays sc book state s clock other r off same =
     subst (λ m. IsOf sc book clock m) (sym (cond-false (is_on_air clock s) other state.map off)) (r.clean, r.stations ∙ sym same)
 
--- where it doesn't fit, the map stays
+-- if the test does not fit, the map stays
 map-frozen : (sc : Scenario) (book : BookView) (state : CoreState) (t : ClockTest) (other : List (ℕ × ℕ)) → IsReady sc book state t.station → IsOf sc book (freezes sc state.clock t) (if is_on_air (freezes sc state.clock t) t.station then other else state.map)
 map-frozen sc book state t other r = stays sc book state t.station (freezes sc state.clock t) other r r.off_air refl
 
--- where it fits, the map takes its entries if the station goes on air
+-- if the test fits, the map takes its entries when the station goes on air
 map-fit : (sc : Scenario) (book : BookView) (state : CoreState) (t : ClockTest) (delta : List (ℕ × ℕ)) → IsReady sc book state t.station → IsCleanOn book (test_task sc book state t).set (overlaid (test_task sc book state t).last delta) → IsOf sc book (after_answer sc state.clock t true) (if is_on_air (after_answer sc state.clock t true) t.station then overlaid state.map delta else state.map)
 map-fit sc book state t delta r e =
     let asked : List ℕ = asked_set sc state.clock t.station in
@@ -194,7 +194,7 @@ map-fit sc book state t delta r e =
     ] in
     go (exits sc t)
 
--- the map after a settled test is a clean one of the stations on air
+-- the map after a settled test is clean, with exactly the stations on air
 pub new-map : (sc : Scenario) (book : BookView) (state : CoreState) (t : ClockTest) (shown : Shown) → IsReady sc book state t.station → FitsStand sc book state → is_active state.clock t.station ≡ true → IsStepShown sc book state (step_of t shown) → IsOf sc book (settled sc state t shown).clock (settled sc state t shown).map
 new-map sc book state t shown r f active h =
     let delta : List (ℕ × ℕ) = delta_of state.steps t.station shown in

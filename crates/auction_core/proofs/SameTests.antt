@@ -1,4 +1,4 @@
--- Whether the next test asks about the same stations as its station's test one round before, by what the program keeps.
+-- Whether the next test asks about the same stations as its station's test one round before, by the labels. For `course::is_same`.
 use Rattle.std.proofs.Common.{◌≡◌, ◌∙◌, ℕ, zero, suc, ◌+◌, ◌-◌, ◌≤◌, true, false, not, cond, ◌&&◌, ◌==◌, eqb, List, [], ◌∷◌, ◌++◌, map, get_or, Some, None, refl, sym, ap, subst, arith}
 use Rattle.std.specs.Option.{option_map_or}
 use Rattle.std.proofs.lemmas.Bool.{ne_eqb}
@@ -30,9 +30,9 @@ same-later s c i l running h due at late =
     same-so-far sc s.book (core_state s c 0) g.before (tests_left s c.round (c.turn + 1)) t (shown_start c.start) c.past.parts (sound-auction s l) split g.walked.clock g.walked.tests refl due.active h.past.parts late
     ∙ ap (λ n. not (touches_since s.book c.past.parts t.station (n + 1))) (sym seen)
 
--- ---- in round 1 there is none before
+-- ---- in round 1 there is no earlier test
 
--- each test is of a round from 1 on
+-- each test is of round 1 or later
 abbrev AreLate : List ClockTest → Type 0
 AreLate [] = Unit {0}
 AreLate (t ∷ ts) = (1 ≤ t.round) × AreLate ts

@@ -1,4 +1,4 @@
--- Tests that ask about the same stations as the same station's test one round before: what that test's fit says now.
+-- Tests that ask about the same stations as the same station's test one round before: the fit of that test still works.
 use Rattle.std.proofs.Common.{◌≡◌, ℕ, ◌-◌, Bool, true, false, not, ◌==◌, nat_lt, ◌&&◌, ◌||◌, cond, if◌then◌else◌, List, [], ◌∷◌, ◌++◌, Option, Some, None, unwrap_or, Contains, refl, sym, ap, ◌∙◌, subst, ⊎_elim, inl, inr, ◌⊎◌, eqb-true, eq-eqb, ne_eqb, MatchOption}
 use Rattle.std.specs.Option.{option_map_or}
 use Rattle.std.proofs.lemmas.Bool.{and_parts, or_cases, or_left, or_right, both_ways, false_from_ne_true, cases_eq, cond-true, cond-false}
@@ -48,7 +48,7 @@ last_fit-own xs x s is = last_fit-push xs x s [] ∙ cond-true (x.station == s) 
 last_fit-other : (xs : List Step) (x : Step) (s : ℕ) → (x.station ≡ s → ⊥) → last_fit (xs ++ x ∷ []) s [] ≡ last_fit xs s []
 last_fit-other xs x s other = last_fit-push xs x s [] ∙ cond-false (x.station == s) (unwrap_or (fit_of x.shown) (last_fit xs s [])) (last_fit xs s []) (ne_eqb x.station s other)
 
--- a set that the steps with one more have is one that they had, or the last one's
+-- a set that the steps with one more have is one that they had, or that of the last step
 pub set_in-push : (sc : Scenario) (book : BookView) (c : ClockState) (xs : List Step) (x : Step) (r s : ℕ) (set : List ℕ) → set_in sc book c (xs ++ x ∷ []) r s ≡ Some set →
     (set_in sc book c xs r s ≡ Some set) ⊎ ((x.station ≡ s) × (tested_set sc book (clock_after sc c xs) s ≡ set))
 set_in-push sc book c [] x r s set e =
@@ -75,7 +75,7 @@ same_list-is (x ∷ xs) (y ∷ ys) e =
     let rest : ys ≡ xs = same_list-is xs ys parts.1 in
     cc
 
--- a test that asks about the same stations: the steps have that set of the round before
+-- if a test asks about the same stations, the steps have its set for the round before
 pub same-set : (sc : Scenario) (book : BookView) (state : CoreState) (t : ClockTest) → is_same sc book state t ≡ true → set_in sc book (opening_state sc) state.steps (t.round - 1) t.station ≡ Some (tested_set sc book state.clock t.station)
 same-set sc book state t e =
     let set : List ℕ = tested_set sc book state.clock t.station in
@@ -117,7 +117,7 @@ reaches-back book set s u start (next {t = t} before there joined) =
 
 -- ---- the clock
 
--- what is on air in the one is on air in the other
+-- every station on air in the first state is on air in the second
 abbrev pub IsLater : ClockState → ClockState → Type 0
 IsLater c d = (f : ℕ) → is_on_air c f ≡ true → is_on_air d f ≡ true
 
@@ -137,7 +137,7 @@ still-active sc c t true s h =
       | false ↦ λ k. k
     ]) h
 
--- a station that is active after its own test fits, and stays as it was
+-- a station that is active after its own test fits, and the clock stays as it was
 own-test : (sc : Scenario) (c : ClockState) (t : ClockTest) (b : Bool) → is_active (after_answer sc c t b) t.station ≡ true → (b ≡ true) × (after_answer sc c t b ≡ c)
 own-test sc c t false h = absurd (both_ways (is_active (freezes sc c t) t.station) (is_in-without c.active t.station) h)
 own-test sc c t true h =
@@ -159,7 +159,7 @@ asked-more sc c d s later z h =
 pub asked-own : (sc : Scenario) (c : ClockState) (s : ℕ) → Contains (facilities sc) s → Contains (asked_set sc c s) s
 asked-own sc c s known = Contains-filter (λ f. is_on_air c f || (f == s)) (facilities sc) s known (or_right (is_on_air c s) (s == s) (eq-eqb s s refl))
 
--- what a test asks about only grows
+-- the set that a test asks about only grows
 pub tested-grows : (sc : Scenario) (book : BookView) (c d : ClockState) (s z : ℕ) → Contains (facilities sc) s → IsLater c d → is_in (tested_set sc book c s) z ≡ true → is_in (tested_set sc book d s) z ≡ true
 tested-grows sc book c d s z known later h =
     is_in-from (tested_set sc book d s) z
@@ -167,7 +167,7 @@ tested-grows sc book c d s z known later h =
     (reaches-more book (asked_set sc c s) (asked_set sc d s) s z (asked-more sc c d s later)
     (component-gives book (asked_set sc c s) s z (is_in-gives (tested_set sc book c s) z h))))
 
--- Where u goes on air, and what it asked about and what s asks about then have a station in common, s asks about u.
+-- if u goes on air, and the sets that u and s ask about have a station in common, then s asks about u
 meets : (sc : Scenario) (book : BookView) (c d : ClockState) (u s z : ℕ) → Contains (facilities sc) u → Contains (facilities sc) s → IsLater c d → is_on_air d u ≡ true → is_in (tested_set sc book c u) z ≡ true → is_in (tested_set sc book d s) z ≡ true → is_in (tested_set sc book d s) u ≡ true
 meets sc book c d u s z known_u known_s later on of_u of_s =
     let all : List ℕ = asked_set sc d s in
@@ -214,7 +214,7 @@ overlaid-has m (x ∷ xs) z h =
     (λ old. or_right (has_station xs z) (has_station (put x m) z) (put-has x m z ∙ or_right (x.0 == z) (has_station m z) old))
     (or_cases (has_station (x ∷ xs) z) (has_station m z) h))
 
--- an entry of a station outside the set leaves the map on the set
+-- an entry of a station outside the set does not change the restricted map
 put-outside : (x : ℕ × ℕ) (m : List (ℕ × ℕ)) (set : List ℕ) → is_in set x.0 ≡ false → restricted (put x m) set ≡ restricted m set
 put-outside x [] set out = cond-false (is_in set x.0) (x ∷ []) [] out
 put-outside x (y ∷ ys) set out =
@@ -235,15 +235,15 @@ overlaid-outside m (x ∷ xs) set out =
     overlaid-outside (put x m) xs set (λ z h. out z (or_right (x.0 == z) (has_station xs z) h))
     ∙ put-outside x m set (out x.0 (or_left (x.0 == x.0) (has_station xs x.0) (eq-eqb x.0 x.0 refl)))
 
--- a fit gives channels to stations of its set alone
+-- a fit gives channels to stations of its set only
 pub within-fit : (book : BookView) (set : List ℕ) (m d : List (ℕ × ℕ)) → IsCleanOn book set (overlaid m d) → (z : ℕ) → has_station d z ≡ true → is_in set z ≡ true
 within-fit book set m d fit z h =
     let new : List (ℕ × ℕ) = overlaid m d in
     fit.only (z, unwrap_or (channel_of z new) 0) (its-channel new z (list_any-map (λ y. y == z) (λ y. y.0) new ∙ overlaid-has m d z (or_left (has_station d z) (has_station m z) h)))
 
--- ---- what stands of earlier fits
+-- ---- earlier fits still work
 
--- it hangs on the clock, the map and the steps alone
+-- `FitsStand` depends on the clock, the map and the steps only
 pub fits-stand-same : (sc : Scenario) (book : BookView) (a b : CoreState) → a.clock ≡ b.clock → a.map ≡ b.map → a.steps ≡ b.steps → FitsStand sc book a → FitsStand sc book b
 fits-stand-same sc book a b e f g h =
     let at : ClockState → List (ℕ × ℕ) → List Step → CoreState = λ c m xs. record b { clock = c; map = m; steps = xs } in
@@ -251,7 +251,7 @@ fits-stand-same sc book a b e f g h =
     let done : FitsStand sc book (at b.clock b.map b.steps) = subst (λ xs. FitsStand sc book (at b.clock b.map xs)) g (subst (λ m. FitsStand sc book (at b.clock m a.steps)) f (subst (λ c. FitsStand sc book (at c a.map a.steps)) e moved)) in
     record { clock = done.clock; grows = done.grows; fits = done.fits }
 
--- before the first step
+-- `FitsStand` before the first step
 pub fits-stand-first : (sc : Scenario) (book : BookView) (state : CoreState) → state.clock ≡ opening_state sc → state.steps ≡ [] → FitsStand sc book state
 fits-stand-first sc book state e f =
     let first : FitsStand sc book (record state { steps = [] }) = record {
@@ -261,7 +261,7 @@ fits-stand-first sc book state e f =
     } in
     fits-stand-same sc book (record state { steps = [] }) state refl refl (sym f) first
 
--- what a test that fits gives the map makes it a clean one of what it asks about
+-- what a fitting test puts into the map makes the map clean on the set that the test asks about
 pub delta-fits : (sc : Scenario) (book : BookView) (state : CoreState) (t : ClockTest) (shown : Shown) → FitsStand sc book state → is_active state.clock t.station ≡ true → IsStepShown sc book state (step_of t shown) → shows_room shown ≡ true →
     IsCleanOn book (test_task sc book state t).set (overlaid (test_task sc book state t).last (delta_of state.steps t.station shown))
 delta-fits sc book state t shown f active h room =
@@ -283,9 +283,9 @@ delta-fits sc book state t shown f active h room =
     by-query (Outside proof) k r = cc
     by-query (Undecided receipts) k r = cc
 
--- ---- one step more
+-- ---- one more step
 
--- an active station is one of the scenario's, and isn't on air
+-- an active station is one of the scenario's and is not on air
 abbrev pub AreOffAir : Scenario → ClockState → Type 0
 AreOffAir sc clock = (s : ℕ) → is_active clock s ≡ true → Contains (facilities sc) s × (is_on_air clock s ≡ false)
 
@@ -322,7 +322,7 @@ module _ (sc : Scenario) (book : BookView) (state : CoreState) (t : ClockTest) (
       (subst (λ m. at after.clock m (delta_of state.steps t.station shown)) (sym same_map)
       (subst (λ c. at c state.map (delta_of state.steps t.station shown)) (sym own.1) fit))
 
-  -- where the tested station goes on air, its test was answered so
+  -- if the tested station goes on air, its test was answered with "it fits"
   went : is_on_air after.clock t.station ≡ true → shows_room shown ≡ true
   went on =
       (elim (shows_room shown) as (λ b. is_on_air (after_answer sc state.clock t b) t.station ≡ true → b ≡ true) [
@@ -358,7 +358,7 @@ module _ (sc : Scenario) (book : BookView) (state : CoreState) (t : ClockTest) (
       (subst (λ m. IsCleanOn book new (overlaid m (last_fit state.steps s []))) (sym same_map)
       (subst (λ set. IsCleanOn book set (overlaid (restricted state.map set) (last_fit state.steps s []))) same kept))
 
-  -- what stood of earlier fits stands after the step, with its own
+  -- earlier fits still work after the step, and so does its own
   pub fits-stand-step : FitsStand sc book after
   fits-stand-step = record {
     clock = clock-more;

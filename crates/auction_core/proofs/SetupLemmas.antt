@@ -1,4 +1,4 @@
--- What stands while an auction runs, by what its parts are made of.
+-- The prices and places of a setup, and what they are made of. For `setup`.
 use Rattle.std.proofs.Common.{◌≡◌, ℕ, ◌<◌, ◌≤◌, List, length, get_or, sym, ap, ◌∙◌, subst, arith}
 use Rattle.std.proofs.lemmas.List.{get_or-map, length-map}
 use Rattle.pack_defs.specs.declared.station.Station.{Station}
@@ -10,7 +10,7 @@ use Rattle.pack_defs.proofs.PriceLaws.{prices_rounds}
 use Rattle.pack_defs.proofs.Turns.{turns-length}
 use Rattle.auction_core.specs.Setup.{IsSetup, SetupView}
 
--- as many prices as rounds, with round 0 for the last
+-- there are as many prices as rounds; round 0 stands in for the last round, which has no price
 pub rounds-are : (s : SetupView) (schedule places : List ℕ) → IsSetup s schedule places → length schedule ≡ last_round s.scenario
 rounds-are s schedule places h = ap length h.offers ∙ prices_rounds s.scenario
 
@@ -20,7 +20,7 @@ rounds-few s schedule places h =
     let are = rounds-are s schedule places h in
     omega (arith, few, are)
 
--- a place for each station
+-- there is a place for each station
 pub as-many : (s : SetupView) (schedule places : List ℕ) → IsSetup s schedule places → length places ≡ length s.scenario.stations
 as-many s schedule places h =
     let own = length-map places (λ i. get_or (facilities s.scenario) i 0) in

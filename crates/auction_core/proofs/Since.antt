@@ -1,4 +1,4 @@
--- Whether a test asks about the same stations as the one before it, by the labels of the parts on air.
+-- Whether a test asks about the same stations as the one before it, by the labels of the components on air.
 use Rattle.std.proofs.Common.{◌≡◌, ℕ, suc, ◌+◌, ◌-◌, ◌<◌, ◌≤◌, ◌↔◌, Bool, true, false, not, ◌==◌, ◌&&◌, ◌||◌, nat_le, if◌then◌else◌, List, [], ◌∷◌, ◌++◌, map, length, Some, Contains, refl, sym, ap, ◌∙◌, subst, ⊎_elim, inl, inr, eqb-true, eq-eqb, ne_eqb, arith, append_assoc, append-nil, length-append}
 use Rattle.std.specs.Bool.{MatchBool}
 use Rattle.std.specs.List.{list_any}
@@ -31,7 +31,7 @@ use Rattle.pack_defs.proofs.Words.{same-truth}
 
 -- ---- numbers
 
--- a station of the first part of the list has a number up to its end, and no other has
+-- a station in the first part of the list has a number up to the end of that part, and no other station has
 number-first : (k : ℕ) (xs ys : List OnAirSince) (s : ℕ) → 1 ≤ k → list_any (λ (x : OnAirSince). x.station == s) xs ≡ true → (number_from k (xs ++ ys) s < k + length xs)
 number-first k [] ys s some on = cc
 number-first k (x ∷ xs) ys s some on =
@@ -56,7 +56,7 @@ number-later k (x ∷ xs) ys s out on =
       | false ↦ λ e f. let later = number-later (suc k) xs ys s e f in omega (arith, later)
     ]) out on
 
--- of those on air now, the ones on air then are those with a number up to how many there were then
+-- of the stations on air now, those that were on air then have a number up to how many there were then
 pub number-then : (was now_ : ClockState) (more : List OnAirSince) (z : ℕ) → now_.on_air ≡ was.on_air ++ more → is_on_air now_ z ≡ true → (is_on_air was z ≡ true) ↔ (number_on_air now_ z < length was.on_air + 1)
 number-then was now_ more z is on = (
   λ early. let less = number-first 1 was.on_air more z (omega arith) early in subst (λ xs. number_from 1 xs z < length was.on_air + 1) (sym is) (omega (arith, less)),
@@ -68,7 +68,7 @@ number-then was now_ more z is on = (
 
 -- ---- the last test of a station
 
--- those on air stay first in the list
+-- the stations on air stay at the head of the list
 answered-more : (sc : Scenario) (c : ClockState) (t : ClockTest) (b : Bool) → (more : List OnAirSince) × ((after_answer sc c t b).on_air ≡ c.on_air ++ more)
 answered-more sc c t false = ([], sym (append-nil c.on_air))
 answered-more sc c t true =
@@ -85,7 +85,7 @@ after-more sc c (x ∷ xs) =
     let (rest, then_is) = after-more sc next xs in
     (one ++ rest, then_is ∙ (ap (λ ys. ys ++ rest) is ∙ append_assoc c.on_air one rest))
 
--- where the next test of a station is of the round behind, no step is of the station
+-- if the next test of a station is in the following round, no step in between is of the station
 none-between : (sc : Scenario) (c : ClockState) (xs : List Step) (t : ClockTest) (s k n : ℕ) → OneEachRound s k (map test_of xs ++ t ∷ []) → t.station ≡ s → t.round ≡ k + 1 → last_seen sc c xs s n ≡ n
 none-between sc c [] t s k n each is at = refl
 none-between sc c (x ∷ xs) t s k n each is at =
@@ -106,7 +106,7 @@ none-between sc c (x ∷ xs) t s k n each is at =
           | false ↦ λ rest. too-late xs t s k rest is early
         ]) each
 
--- what the station's last test asked about, and how many were on air then
+-- the set that the station's last test asked about, and how many stations were on air then
 record LastTest (sc : Scenario) (book : BookView) (c : ClockState) (xs : List Step) (r s n : ℕ) : Type 0 where
   was : ClockState
   more : List OnAirSince
@@ -155,7 +155,7 @@ last-test sc book c (x ∷ xs) t s k n each is late =
     and_no true = refl
     and_no false = refl
 
--- the tests asked of a station that is active afterwards are one a round, as all are
+-- like all tests, the tests asked of a station that is active afterwards are one a round
 asked-rounds : (sc : Scenario) (book : BookView) (U ts after : List ClockTest) (st : ClockState) (t : ClockTest) (s k : ℕ) → OneEachRound s k (ts ++ t ∷ after) → is_active (after_tests sc book U ts st) s ≡ true → t.station ≡ s → OneEachRound s k (asked_from sc book U ts st ++ t ∷ [])
 asked-rounds sc book U [] after st t s k each active is =
     let first = subst (λ b. MatchBool b ((t.round ≡ k + 1) × OneEachRound s (k + 1) after) (OneEachRound s k after)) (eq-eqb t.station s is) each in
@@ -178,7 +178,7 @@ asked-rounds sc book U (u ∷ ts) after st t s k each active is =
 
 -- ---- by the labels
 
--- those with a label are the stations on air, and a test of another station asks of these and that one
+-- the stations with a label are those on air, and a test of another station asks about some of these and that one
 pub asks-with-one : (sc : Scenario) (book : BookView) (clock : ClockState) (parts : PartsView) (s : ℕ) → Contains (facilities sc) s → is_on_air clock s ≡ false → IsPartsOf sc book clock parts → IsWithOne (labelled parts) (asked_set sc clock s) s
 asks-with-one sc book clock parts s known off h =
     let listed : (z : ℕ) → Contains (labelled parts) z → Contains (facilities sc) z × (is_on_air clock z ≡ true) = λ z c.
@@ -196,8 +196,7 @@ asks-with-one sc book clock parts s known off h =
       new = λ c. both_ways (is_on_air clock s) off (listed s c).1;
     }
 
--- a test of a station that isn't on air asks about the same stations as when these were on air, exactly where it touches no
--- part that changed since
+-- a test of a station off air asks about the same stations as before if and only if it touches no component that changed since
 pub same-by-parts : (sc : Scenario) (book : BookView) (was now_ : ClockState) (more : List OnAirSince) (parts : PartsView) (s : ℕ) → IsAuction sc book → Contains (facilities sc) s → is_on_air now_ s ≡ false → now_.on_air ≡ was.on_air ++ more → IsPartsOf sc book now_ parts →
     same_list (tested_set sc book now_ s) (tested_set sc book was s) ≡ not (touches_since book parts s (length was.on_air + 1))
 same-by-parts sc book was now_ more parts s a known off is h =
@@ -232,8 +231,8 @@ same-by-parts sc book was now_ more parts s a known off is h =
     not-is true e = cc
     not-is false e = refl
 
--- The test of an active station in round 2 or later asks about the same stations as the one before, exactly where it touches
--- no part that changed since the station's last step.
+-- From round 2 on: the test of an active station asks about the same stations as the one before if and only if it touches no
+-- component that changed since.
 pub same-since : (sc : Scenario) (book : BookView) (U before after : List ClockTest) (state : CoreState) (parts : PartsView) (t : ClockTest) → IsAuction sc book → clock_tests sc state.order ≡ before ++ t ∷ after → map test_of state.steps ≡ asked_from sc book U before (opening_state sc) → state.clock ≡ after_tests sc book U before (opening_state sc) → clock_after sc (opening_state sc) state.steps ≡ state.clock → AreOffAir sc state.clock → is_active state.clock t.station ≡ true → IsPartsOf sc book state.clock parts → 2 ≤ t.round →
     is_same sc book state t ≡ not (touches_since book parts t.station (last_seen sc (opening_state sc) state.steps t.station 0 + 1))
 same-since sc book U before after state parts t a split tests clock steps off active h late =
@@ -248,13 +247,13 @@ same-since sc book U before after state parts t a split tests clock steps off ac
     ∙ (same-by-parts sc book l.was state.clock l.more parts s a there.0 there.1 (ap (λ (c : ClockState). c.on_air) (sym steps) ∙ l.now_is) h
     ∙ ap (λ n. not (touches_since book parts s (n + 1))) (sym l.seen))
 
--- ---- the labels go with the clock
+-- ---- the labels follow the clock
 
 pub after-clock : (sc : Scenario) (st : CoreState) (xs : List Step) → (after_steps sc st xs).clock ≡ clock_after sc st.clock xs
 after-clock sc st [] = refl
 after-clock sc st (x ∷ xs) = after-clock sc (settled sc st (test_of x) x.shown) xs
 
--- the same, of what the steps leave
+-- the same, for the clock after the steps
 pub same-so-far : (sc : Scenario) (book : BookView) (state : CoreState) (before after : List ClockTest) (t : ClockTest) (start : Shown) (parts : PartsView) → IsAuction sc book → clock_tests sc state.order ≡ before ++ t ∷ after → state.clock ≡ after_tests sc book (undecided_of state.steps) before (opening_state sc) → map test_of state.steps ≡ asked_from sc book (undecided_of state.steps) before (opening_state sc) → (after_steps sc (after_start sc state.order start) state.steps).clock ≡ state.clock → is_active state.clock t.station ≡ true → IsPartsOf sc book state.clock parts → 2 ≤ t.round →
     is_same sc book state t ≡ not (touches_since book parts t.station (last_seen sc (opening_state sc) state.steps t.station 0 + 1))
 same-so-far sc book state before after t start parts a split clock tests steps active h late =
@@ -294,7 +293,7 @@ module _ (sc : Scenario) (book : BookView) (clock : ClockState) (t : ClockTest) 
   on-next : (z : ℕ) → is_on_air next z ≡ (is_on_air clock z || ((u == z) || false))
   on-next z = list_any-append (λ (x : OnAirSince). x.station == z) clock.on_air (record { station = u; round = t.round } ∷ [])
 
-  -- a label that a station on air has isn't 0
+  -- the label of a station on air is not 0
   touched-label : (l : ℕ) → touches book (labelled parts) (label_of parts) u l ≡ true → not (l == 0) ≡ true
   touched-label l touched =
       let (v, c, w) = list_any-gives (λ v. interferes book u v && (label_of parts v == l)) (labelled parts) touched in
@@ -343,7 +342,7 @@ module _ (sc : Scenario) (book : BookView) (clock : ClockState) (t : ClockTest) 
       or-false true e = refl
       or-false false e = cc
 
-  -- the labels once a station goes on air are those of the clock then
+  -- the labels once a station goes on air are those of the clock's new state
   pub joined-parts : IsPartsOf sc book next new
   joined-parts =
       let on : (z : ℕ) → Contains (labelled parts) z → is_on_air clock z ≡ true = λ z c.

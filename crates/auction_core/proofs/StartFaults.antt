@@ -1,4 +1,4 @@
--- A start without a fault is shown as it has to be, and the other way round.
+-- A start without a fault is properly settled, and the converse. For `follow`.
 use Rattle.std.proofs.Common.{◌≡◌, ℕ, Bool, true, false, if◌then◌else◌, List, [], ◌∷◌, find, Option, Some, None, option_map, is_none, MatchOption, refl, sym, subst}
 use Rattle.pack_defs.specs.declared.scenario.Scenario.{Scenario}
 use Rattle.pack_defs.specs.Book.{BookView, domain_of}

@@ -1,4 +1,4 @@
--- How the start set fits, by how a backed record ended.
+-- Whether the start set fits, by how a backed record ended.
 use Rattle.std.proofs.Common.{◌≡◌, ◌∙◌, ℕ, Bool, true, false, cond, List, [], ◌∷◌, Option, Some, None, refl, sym, ap, subst, Contains, MatchOption}
 use Rattle.std.specs.Prelude.{find, option_map}
 use Rattle.std.proofs.lemmas.Bool.{false_from_ne_true}
@@ -26,7 +26,7 @@ use Rattle.auction_core.proofs.Done.{done-room}
 use Rattle.auction_core.proofs.Room.{by-worker, no-element}
 use Rattle.auction_core.proofs.Starts.{is-start, start-map}
 
--- one that is done has a start set that fits
+-- if the record is done, the start set fits
 pub done-fits : (sc : Scenario) (book : BookView) (order : Order) (rec : Record) → IsAuction sc book → IsBacked sc book order rec → rec.ending ≡ Done → fits book (start_set sc) ≡ true
 done-fits sc book order rec a b done =
     let of = start-map sc book rec.start a b.start (done-room rec.start (sym b.ending ∙ done)) in
@@ -36,7 +36,7 @@ done-fits sc book order rec a b done =
       clean = of.0;
     })
 
--- ---- a start that is shown not to fit
+-- ---- a start that does not fit
 
 first-found : (p : ℕ → Bool) (xs : List ℕ) (s : ℕ) → find p xs ≡ Some s → Contains xs s × (p s ≡ true)
 first-found p [] s h = cc
@@ -46,7 +46,7 @@ first-found p (x ∷ xs) s h =
       | false ↦ λ fails is. let later = first-found p xs s is in (Contains-there x s xs later.0, later.1)
     ]) refl h
 
--- no map gives a station without a channel one
+-- a set with a station without a channel does not fit
 bare-unfit : (book : BookView) (set : List ℕ) (s : ℕ) → Contains set s → domain_of book s ≡ [] → fits book set ≡ false
 bare-unfit book set s there bare =
     false_from_ne_true _ (λ fit.
@@ -54,7 +54,7 @@ bare-unfit book set s there bare =
     let (x, listed, is) = Contains-from_map (λ (e : ℕ × ℕ). e.0) map_of.entries s (subst (λ z. Contains z s) (sym map_of.stations) there) in
     Contains-nil x.1 (subst (λ (z : List ℕ). Contains z x.1) (ap (domain_of book) is ∙ bare) (map_of.clean.on_domain x listed)))
 
--- what is shown without a query is that nothing starts on air, or that a station of the start has no channel
+-- a start settled without a query is empty or has a station without a channel
 data IsUnasked (sc : Scenario) (book : BookView) (shown : Shown) : Type 0 where
   Nobody : shown ≡ Empty → IsUnasked sc book shown
   Bare : (s : ℕ) → shown ≡ NoChannel s → Contains (start_set sc) s → domain_of book s ≡ [] → IsUnasked sc book shown
@@ -87,7 +87,7 @@ unasked_unfit : (sc : Scenario) (book : BookView) (shown : Shown) → ending_of 
 unasked_unfit sc book shown r (Nobody is) = let no : ending_of Empty ≡ StartRefuted = sym (ap ending_of is) ∙ r in cc
 unasked_unfit sc book shown r (Bare s is there bare) = bare-unfit book (start_set sc) s there bare
 
--- one whose start was refuted has a start set that doesn't fit
+-- if the start was refuted, the start set does not fit
 pub refuted-unfits : (sc : Scenario) (book : BookView) (order : Order) (rec : Record) → IsAuction sc book → IsBacked sc book order rec → rec.ending ≡ StartRefuted → fits book (start_set sc) ≡ false
 refuted-unfits sc book order rec a b refuted =
     let go : (o : Option Shown) → start_unasked sc book ≡ o → MatchOption o (IsSettledBy sc book (start_task sc 1) rec.start) (λ unasked. rec.start ≡ unasked) → fits book (start_set sc) ≡ false = λ o. elim o as (λ o. start_unasked sc book ≡ o → MatchOption o (IsSettledBy sc book (start_task sc 1) rec.start) (λ unasked. rec.start ≡ unasked) → fits book (start_set sc) ≡ false) [
@@ -96,7 +96,7 @@ refuted-unfits sc book order rec a b refuted =
     ] in
     go (start_unasked sc book) refl b.start
 
--- ---- a start that is left open
+-- ---- an undecided start
 
 settled_open : (sc : Scenario) (book : BookView) (shown : Shown) → ending_of shown ≡ StartUndecided → IsSettledBy sc book (start_task sc 1) shown →
     (receipts : List Receipt) × (shown ≡ Undecided receipts) × AreReceipts book (start_task sc 1) sc.workers receipts
@@ -112,7 +112,7 @@ unasked_open : (sc : Scenario) (book : BookView) (shown : Shown) → ending_of s
 unasked_open sc book shown r (Nobody is) = let no : ending_of Empty ≡ StartUndecided = sym (ap ending_of is) ∙ r in cc
 unasked_open sc book shown r (Bare s is there bare) = let no : ending_of (NoChannel s) ≡ StartUndecided = sym (ap ending_of is) ∙ r in cc
 
--- one whose start was left open has a receipt of every worker
+-- an undecided start has a receipt of every worker
 pub open-receipts : (sc : Scenario) (book : BookView) (order : Order) (rec : Record) → IsBacked sc book order rec → rec.ending ≡ StartUndecided →
     (receipts : List Receipt) × (rec.start ≡ Undecided receipts) × AreReceipts book (start_task sc 1) sc.workers receipts
 open-receipts sc book order rec b left =
@@ -123,7 +123,7 @@ open-receipts sc book order rec b left =
     ] in
     go (start_unasked sc book) refl b.start
 
--- a start set that nobody is in is not left open
+-- an empty start set is not undecided
 pub open-some : (sc : Scenario) (book : BookView) (order : Order) (rec : Record) → IsBacked sc book order rec → rec.ending ≡ StartUndecided → start_set sc ≡ [] → ⊥
 open-some sc book order rec b left none =
     let empty : start_unasked sc book ≡ Some Empty = ap (λ xs. cond (is_empty xs) (Some Empty) (option_map NoChannel (find (λ s. is_empty (domain_of book s)) xs))) none in

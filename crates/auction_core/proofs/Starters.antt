@@ -1,4 +1,4 @@
--- The parts of the stations that are on air from the start, one station after another.
+-- The components of the stations that are on air from the start, one station at a time. For `course::air_those`.
 use Rattle.std.proofs.Common.{◌≡◌, ◌∙◌, ℕ, zero, suc, ◌+◌, ◌<◌, ◌≤◌, Bool, true, false, not, cond, ◌||◌, ◌==◌, Contains, List, [], ◌∷◌, ◌++◌, length, map, filter, take, get_or, inl, inr, refl, sym, ap, subst, arith, append-nil, length-append}
 use Rattle.std.proofs.lemmas.Bool.{both_ways, cond-false, cond-true, false_from_ne_true, ne_eqb, true≢false, cases_Bool}
 use Rattle.std.proofs.lemmas.List.{length-map, map-append, take_all}
@@ -24,22 +24,22 @@ use Rattle.auction_core.proofs.ClockLemmas.{is_on_air_at}
 use Rattle.auction_core.proofs.Since.{joined-parts}
 use Rattle.auction_core.proofs.StartLemmas.{starts-more}
 
--- those of the first so many stations that start on air
+-- those of the first n stations that start on air
 abbrev starters : Scenario → ℕ → List ℕ
 starters sc i = filter (λ s. declines sc s 0) (take i (facilities sc))
 
--- the opening, had only these gone on air
+-- the opening state with only these stations on air
 abbrev pub aired : Scenario → ℕ → ClockState
 aired sc i = record (opening_state sc) { on_air = map start_entry (starters sc i) }
 
--- the parts hang on the list of those on air alone
+-- the labels depend on the list of stations on air only
 parts-same : (sc : Scenario) (book : BookView) (a b : ClockState) (parts : PartsView) → a.on_air ≡ b.on_air → IsPartsOf sc book a parts → IsPartsOf sc book b parts
 parts-same sc book a b parts e h =
     let at : IsPartsOf sc book (record b { on_air = a.on_air }) parts = record { stations = h.stations; on_air = h.on_air; are = h.are; most = h.most } in
     let done = subst (λ o. IsPartsOf sc book (record b { on_air = o }) parts) e at in
     record { stations = done.stations; on_air = done.on_air; are = done.are; most = done.most }
 
--- none is on air where no station has a label
+-- no station is on air if no station has a label
 pub aired-none : (sc : Scenario) (book : BookView) (parts : PartsView) → parts.stations ≡ facilities sc → ((z : ℕ) → label_of parts z ≡ 0) → IsPartsOf sc book (aired sc 0) parts
 aired-none sc book parts e none = record {
   stations = e;
@@ -82,9 +82,9 @@ not-before (x ∷ xs) (suc i) up inside =
     ap (λ b. b || is_in (take i xs) (get_or xs i 0)) (ne_eqb x (get_or xs i 0) (λ e. absurd (omega (arith, less, e))))
     ∙ not-before xs i (λ j k l m. up (suc j) (suc k) (omega (arith, l)) (omega (arith, m))) (omega (arith, inside))
 
--- ---- one station more
+-- ---- one more station
 
--- one that doesn't start on air
+-- a station that does not start on air
 pub passed-list : (sc : Scenario) (standings : List Standing) (i : ℕ) (d : Standing) → AreStandings sc (opening_state sc) standings → i < length sc.stations → stands_on_air (get_or standings i d) ≡ false → (aired sc (i + 1)).on_air ≡ (aired sc i).on_air
 passed-list sc standings i d are inside off =
     ap (map start_entry) (starts-more sc i inside ∙ (ap (λ z. starters sc i ++ z) (cond-false _ _ _ (starts-by sc standings i d are inside ∙ off)) ∙ append-nil (starters sc i)))
@@ -92,7 +92,7 @@ passed-list sc standings i d are inside off =
 pub aired-passed : (sc : Scenario) (book : BookView) (standings : List Standing) (i : ℕ) (d : Standing) (parts : PartsView) → AreStandings sc (opening_state sc) standings → i < length sc.stations → stands_on_air (get_or standings i d) ≡ false → IsPartsOf sc book (aired sc i) parts → IsPartsOf sc book (aired sc (i + 1)) parts
 aired-passed sc book standings i d parts are inside off h = parts-same sc book (aired sc i) (aired sc (i + 1)) parts (sym (passed-list sc standings i d are inside off)) h
 
--- one that does
+-- a station that starts on air
 pub taken-list : (sc : Scenario) (standings : List Standing) (i : ℕ) (d : Standing) → AreStandings sc (opening_state sc) standings → i < length sc.stations → stands_on_air (get_or standings i d) ≡ true → (aired sc (i + 1)).on_air ≡ (aired sc i).on_air ++ start_entry (get_or (facilities sc) i 0) ∷ []
 taken-list sc standings i d are inside on =
     ap (map start_entry) (starts-more sc i inside ∙ ap (λ z. starters sc i ++ z) (cond-true _ _ _ (starts-by sc standings i d are inside ∙ on)))
@@ -111,7 +111,7 @@ aired-taken sc book standings i d old new n ascend are inside on h count same la
     let joined = joined-parts sc book (aired sc i) t old new (Contains-get_or (facilities sc) i 0 within) off h same (subst (λ m. (z : ℕ) → label_of new z ≡ relabelled book (labelled old) (label_of old) f (m + 1) z) count labels) in
     parts-same sc book (goes_on_air (aired sc i) t) (aired sc (i + 1)) new (sym (taken-list sc standings i d are inside on)) joined
 
--- by whether it does
+-- one more station, whether or not it starts on air
 pub aired-more : (sc : Scenario) (book : BookView) (standings : List Standing) (i : ℕ) (old new : PastView) → StationsAscend sc → AreStandings sc (opening_state sc) standings → i < length sc.stations →
     IsPartsOf sc book (aired sc i) old.parts → old.on_air ≡ length (aired sc i).on_air → new.parts.stations ≡ old.parts.stations →
     (stands_on_air (get_or standings i Active) ≡ true → (new.on_air ≡ old.on_air + 1) × ((z : ℕ) → label_of new.parts z ≡ relabelled book (labelled old.parts) (label_of old.parts) (get_or (facilities sc) i 0) (old.on_air + 1) z)) →
@@ -132,7 +132,7 @@ aired-more sc book standings i old new ascend are inside h count same went stood
           )
     ]
 
--- ---- all of them
+-- ---- all stations
 
 pub aired-all : (sc : Scenario) → (aired sc (length sc.stations)).on_air ≡ (opening_state sc).on_air
 aired-all sc = ap (λ xs. map start_entry (filter (λ s. declines sc s 0) xs)) (take_all (length sc.stations) (facilities sc) (let all = length-map sc.stations (λ (x : Station). x.id) in omega (arith, all)))
@@ -140,7 +140,7 @@ aired-all sc = ap (λ xs. map start_entry (filter (λ s. declines sc s 0) xs)) (
 pub aired-opening : (sc : Scenario) (book : BookView) (parts : PartsView) → IsPartsOf sc book (aired sc (length sc.stations)) parts → IsPartsOf sc book (opening_state sc) parts
 aired-opening sc book parts h = parts-same sc book (aired sc (length sc.stations)) (opening_state sc) parts (aired-all sc) h
 
--- there are no more of them than stations
+-- there are at most as many as stations
 pub aired-few : (sc : Scenario) (i : ℕ) → length (aired sc i).on_air ≤ i
 aired-few sc i = let kept = kept_at_most (λ s. declines sc s 0) (take i (facilities sc)) in let first = first_at_most i (facilities sc) in let same = length-map (starters sc i) start_entry in omega (arith, kept, first, same)
   where

@@ -1,4 +1,4 @@
--- A step without a fault is shown as it has to be, with its logs numbered as they have to be, and the other way round.
+-- A step without a fault is properly settled with rightly numbered logs, and the converse. For `WalkLemmas` and `step_check`.
 use Rattle.std.proofs.Common.{◌≡◌, ℕ, Bool, true, false, ◌&&◌, ◌==◌, if◌then◌else◌, List, [], ◌∷◌, map, length, Option, Some, None, option_map, refl, sym, ap, ap₂, subst, ◌∙◌, suc, arith, MatchOption, eqb-true, eq-eqb, inl, inr}
 use Rattle.std.specs.Prelude.{slice_get}
 use Rattle.std.specs.Option.{option_map_or}
@@ -124,7 +124,7 @@ outside-none : (book : BookView) (task : Task) (proof : OutsideProof) → IsOuts
 outside-none book task proof h =
     rw (eq-eqb (first_number (clauses_in book task.set) proof.log.lines) (first_number (clauses_in book task.set) proof.log.lines) refl) (means-outside book task.set proof h)
 
--- A query about a station, as each test's is.
+-- a query about a station, as that of each test is
 pub query-shown : (sc : Scenario) (book : BookView) (task : Task) (s : ℕ) (shown : Shown) (firsts : List ℕ) → task.station ≡ Some s → query_fault sc book task shown firsts ≡ None
     → IsSettledBy sc book task shown × (firsts ≡ firsts_of (clauses_in book task.set) shown)
 query-shown sc book task s Empty firsts a e = absurd (absurd-place Kind e)
@@ -176,7 +176,7 @@ like-shown (Refuted w how) e = absurd cc
 like-shown (Outside proof) e = absurd cc
 like-shown (Undecided xs) e = absurd cc
 
--- what is shown as a test was settled without a query is that
+-- what the transcript says of a test settled without a query is what the rule says
 pub so-shown : (own shown : Shown) → is_unasked_so own shown ≡ true → shown ≡ own
 so-shown Empty shown e = absurd cc
 so-shown (Fits delta) shown e = absurd cc
@@ -186,14 +186,14 @@ so-shown (Refuted w how) shown e = absurd cc
 so-shown (Outside proof) shown e = absurd cc
 so-shown (Undecided xs) shown e = absurd cc
 
--- and the other way round
+-- and the converse
 so-itself : (sc : Scenario) (book : BookView) (state : CoreState) (t : ClockTest) (own : Shown) → settled_unasked sc book state t ≡ Some own → is_unasked_so own own ≡ true
 so-itself sc book state t own e = elim (unasked-cases sc book state t own e) as (λ _. is_unasked_so own own ≡ true) [
   | inl bare ↦ ap₂ is_unasked_so bare.1 bare.1 ∙ eq-eqb t.station t.station refl
   | inr same ↦ ap₂ is_unasked_so same.1 same.1
 ]
 
--- it has no log
+-- a test settled without a query has no log
 no-logs : (sc : Scenario) (book : BookView) (state : CoreState) (t : ClockTest) (own : Shown) (clauses : ℕ) → settled_unasked sc book state t ≡ Some own → firsts_of clauses own ≡ []
 no-logs sc book state t own clauses e = elim (unasked-cases sc book state t own e) as (λ _. firsts_of clauses own ≡ []) [
   | inl bare ↦ ap (firsts_of clauses) bare.1
@@ -206,7 +206,7 @@ unasked-shown x own e =
     let both = and_parts (is_unasked_so own x.step.shown) (is_empty x.firsts) parts.0 in
     (so-shown own x.step.shown both.0, nil-is x.firsts both.1)
 
--- the clauses of a step's test
+-- the number of clauses of a step's test
 abbrev clauses_at : Scenario → BookView → CoreState → TranscriptStep → ℕ
 clauses_at sc book state x = clauses_in book (test_task sc book state (test_of x.step)).set
 

@@ -1,4 +1,4 @@
--- Steps kept in lines and verdicts: what one step more makes of them, and where a fit stands.
+-- Steps stored as lines and verdicts: one more step, and the place of a fit. For `step_list`.
 use Rattle.std.proofs.Common.{◌≡◌, ℕ, zero, suc, ◌+◌, ◌-◌, ◌<◌, ◌≤◌, Bool, true, false, if◌then◌else◌, List, [], ◌∷◌, ◌++◌, length, map, get_or, is_some, slice_get, unwrap_or, option_map, MatchOption, refl, sym, ap, ◌∙◌, eqb-true, eq-eqb, arith}
 use Rattle.std.specs.Bool.{⊤}
 use Rattle.std.specs.List.{list_all}
@@ -25,9 +25,9 @@ pub length-merged : (ls : List StepLine) (told : List Shown) → length (merged 
 length-merged [] told = refl
 length-merged (l ∷ ls) told = ap suc (length-merged ls (told_behind l.way told))
 
--- ---- one step more
+-- ---- one more step
 
--- with a verdict of its own
+-- a step with a verdict of its own
 more-told : (ls : List StepLine) (told : List Shown) (r s : ℕ) (x : Shown) → takers ls ≡ length told →
     merged (ls ++ line_as r s Verdict ∷ []) (told ++ x ∷ []) ≡ merged ls told ++ step_as r s x ∷ []
 more-told [] [] r s x e = refl
@@ -42,7 +42,7 @@ more-told (l ∷ ls) told r s x e = behind l.way told e (λ rest f. more-told ls
     behind LikeBefore told e next = ap (λ xs. step_as l.round l.station Same ∷ xs) (next told (omega arith))
     behind Bare told e next = ap (λ xs. step_as l.round l.station (NoChannel l.station) ∷ xs) (next told (omega arith))
 
--- without one
+-- a step without a verdict
 more-plain : (ls : List StepLine) (told : List Shown) (r s : ℕ) (way : Way) → takers ls ≡ length told →
     merged (ls ++ line_as r s way ∷ []) told ≡ merged ls told ++ step_as r s (shown_by way s []) ∷ []
 more-plain [] [] r s way e = refl
@@ -57,7 +57,7 @@ more-plain (l ∷ ls) told r s way e = behind l.way told e (λ rest f. more-plai
     behind LikeBefore told e next = ap (λ xs. step_as l.round l.station Same ∷ xs) (next told (omega arith))
     behind Bare told e next = ap (λ xs. step_as l.round l.station (NoChannel l.station) ∷ xs) (next told (omega arith))
 
--- however it is shown
+-- any step
 pub pushed : (ls : List StepLine) (told : List Shown) (r s : ℕ) (x : Shown) → takers ls ≡ length told → names_only s x ≡ true →
     merged (ls ++ line_as r s (way_of x) ∷ []) (told_with told x) ≡ merged ls told ++ step_as r s x ∷ []
 pushed ls told r s Empty e n = more-told ls told r s Empty e
@@ -68,7 +68,7 @@ pushed ls told r s (Refuted worker how) e n = more-told ls told r s (Refuted wor
 pushed ls told r s (Outside proof) e n = more-told ls told r s (Outside proof) e
 pushed ls told r s (Undecided receipts) e n = more-told ls told r s (Undecided receipts) e
 
--- the lines with a verdict, once there is one line more
+-- the lines with a verdict, with one more line
 takers-more : (ls : List StepLine) (l : StepLine) → takers (ls ++ l ∷ []) ≡ takers ls + (if takes_verdict l.way then 1 else 0)
 takers-more [] l = omega arith
 takers-more (m ∷ ls) l = let rest = takers-more ls l in omega (arith, rest)
@@ -82,7 +82,7 @@ still-told ls told r s x e =
       | false ↦ omega (arith, e)
     ]
 
--- the lines and the verdicts once a step is pushed
+-- the verdicts once a step without a verdict is pushed
 pub plain-with : (told : List Shown) (x : Shown) (w : Way) (b : Bool) → w ≡ way_of x → b ≡ takes_verdict w → b ≡ false → told ≡ told_with told x
 plain-with told x w b way is none =
     sym (ap (λ c. if c then told ++ x ∷ [] else told) (ap takes_verdict (sym way) ∙ (sym is ∙ none)))
@@ -100,7 +100,7 @@ steps-now ls now told told_now r s w x way lines verdicts e named =
     ap (λ ks. merged ks told_now) (lines ∙ ap (λ v. ls ++ line_as r s v ∷ []) way)
     ∙ (ap (merged (ls ++ line_as r s (way_of x) ∷ [])) verdicts ∙ pushed ls told r s x e named)
 
--- the verdicts are still verdicts
+-- the entry is a verdict
 abbrev pub is_verdict : Shown → Bool
 is_verdict x = takes_verdict (way_of x)
 
@@ -119,13 +119,13 @@ kept-now ls now told told_now r s w x way lines verdicts k = record {
 
 -- ---- the line of a step
 
--- what takes a verdict is one
+-- only one step kind takes a verdict
 a-verdict : (w : Way) → takes_verdict w ≡ true → w ≡ Verdict
 a-verdict Verdict h = refl
 a-verdict LikeBefore h = cc
 a-verdict Bare h = cc
 
--- the lines of the steps are those that are kept
+-- the lines of the merged steps are the stored lines
 lines-back : (ls : List StepLine) (told : List Shown) → takers ls ≡ length told → list_all is_verdict told ≡ true → map step_line_of (merged ls told) ≡ ls
 lines-back [] told e v = refl
 lines-back (l ∷ ls) told e v = behind l.way told e v (λ rest f u. lines-back ls rest f u)
@@ -173,7 +173,7 @@ names-within (l ∷ ls) told k e v = behind l.way told k e v (λ rest j f u. nam
 pub names-there : (ls : List StepLine) (told : List Shown) (k : ℕ) → IsKept ls told → MatchOption (slice_get (merged ls told) k) ⊤ (λ x. names_only x.station x.shown ≡ true)
 names-there ls told k h = names-within ls told k h.each h.verdicts
 
--- ---- where a fit stands among the verdicts
+-- ---- the place of a fit among the verdicts
 
 fit-behind : (told : List Shown) (k : ℕ) (d : Shown) → k < length told → fit_at told (suc k) ≡ unwrap_or (fit_of (get_or told k d)) []
 fit-behind [] k d h = absurd (omega arith)
@@ -195,7 +195,7 @@ no-fit-there told n h =
     let next : n ≡ suc (n - 1) = omega arith in
     ap (fit_at told) next ∙ no-fit-behind told (n - 1) (omega arith)
 
--- it stands there when more is told
+-- the fit at a place stays when verdicts are appended
 fit-stays : (told more : List Shown) (n : ℕ) → n ≤ length told → fit_at (told ++ more) n ≡ fit_at told n
 fit-stays told more zero h = refl
 fit-stays [] more (suc n) h = absurd (omega arith)
@@ -216,7 +216,7 @@ told-grows told x =
       | false ↦ omega arith
     ]
 
--- a fit is a verdict, and stands behind those before it
+-- a fit is a verdict and is appended to those before it
 fit-is-told : (told : List Shown) (x : Shown) → is_some (fit_of x) ≡ true → told_with told x ≡ told ++ x ∷ []
 fit-is-told told Empty h = cc
 fit-is-told told (Fits delta) h = refl

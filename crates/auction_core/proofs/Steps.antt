@@ -1,4 +1,4 @@
--- One settled test more: the state stays where the clock rule comes to.
+-- One more settled test: the state stays where the clock rule leads.
 use Rattle.std.proofs.Common.{◌≡◌, ℕ, ◌+◌, ◌≤◌, Bool, true, false, not, cond, ◌==◌, ◌&&◌, if◌then◌else◌, List, [], ◌∷◌, ◌++◌, map, Option, Some, None, count_by, Contains, refl, sym, ap, ◌∙◌, subst, ⊎_elim, arith, eqb-true, eq-eqb, append_assoc, append-nil}
 use Rattle.std.specs.List.{list_any, cons_option}
 use Rattle.std.proofs.lemmas.Bool.{and_parts, and_from, or_cases, or_left, or_right, both_ways, false_from_ne_true, cases_Bool}
@@ -81,9 +81,9 @@ listed-asked sc book U (u ∷ us) st t h =
     ] in
     go (is_active st u.station) h
 
--- ---- where the state stands after some tests
+-- ---- the state after some tests
 
--- the next test isn't one of the undecided ones
+-- the next test is not one of the undecided ones
 pub new-test : (sc : Scenario) (book : BookView) (start : Shown) (state : CoreState) (before after : List ClockTest) (t : ClockTest) → IsAuction sc book → IsWalked sc book start state before → clock_tests sc state.order ≡ before ++ t ∷ after → is_listed (undecided_of state.steps) t ≡ false
 new-test sc book start state before after t a w parts =
     false_from_ne_true (is_listed (undecided_of state.steps) t) (λ yes.
@@ -112,7 +112,7 @@ one-more p (x ∷ xs) h =
     let step = go (p x) refl in
     omega arith
 
--- an active station isn't on air
+-- an active station is not on air
 pub not-on-air : (sc : Scenario) (book : BookView) (U before : List ClockTest) (clock : ClockState) (s : ℕ) → IsAuction sc book → clock ≡ after_tests sc book U before (opening_state sc) → is_active clock s ≡ true → is_on_air clock s ≡ false
 not-on-air sc book U before clock s a e active =
     false_from_ne_true (is_on_air clock s) (λ yes.

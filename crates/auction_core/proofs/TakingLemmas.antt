@@ -1,4 +1,4 @@
--- What is noted is no part of a query, and a settled query leaves none noted.
+-- A query does not depend on the pending receipts, and a settled query leaves none pending. For `taking`.
 use Rattle.std.proofs.Common.{◌≡◌, ℕ, ◌+◌, Bool, true, false, if◌then◌else◌, List, [], ◌∷◌, Option, Some, None, is_none, refl, sym, ap, ◌∙◌, subst, MatchOption}
 use Rattle.std.specs.Option.{option_map_or}
 use Rattle.pack_defs.specs.Book.{BookView}
@@ -41,7 +41,7 @@ past-none : (sc : Scenario) (book : BookView) (state : CoreState) (shown : Shown
 past-none sc book state shown [] e = e
 past-none sc book state shown (t ∷ ts) e = (go-on-start sc book ts (settled sc state t shown)).1 ∙ e
 
--- a settled query leaves none noted
+-- a settled query leaves no pending receipt
 pub answered-none : (sc : Scenario) (book : BookView) (state : CoreState) (shown : Shown) → (answered sc book state shown).noted ≡ []
 answered-none sc book state shown =
     let next : CoreState = record state { noted = []; number = state.number + 1 } in
@@ -51,7 +51,7 @@ answered-none sc book state shown =
     ] in
     go (is_none state.start)
 
--- what a settled query is told and leaves, whatever was noted on it
+-- the reply to a settled query and the state after it, whatever receipts were pending
 pub advanced-is : (sc : Scenario) (book : BookView) (state after : CoreState) (noted : List NotedSpent) (shown : Shown) (next : Option ℕ) → after ≡ answered sc book state shown → noted ≡ [] → next ≡ (if has_ended after then None else Some after.number) → (Advanced next, record after { noted = noted }) ≡ advanced sc book state shown
 advanced-is sc book state after noted shown next a n e =
     let same : record after { noted = noted } ≡ after = ap (λ ns. record after { noted = ns }) (n ∙ sym (ap (λ s. s.noted) a ∙ answered-none sc book state shown)) in
@@ -65,7 +65,7 @@ unfolding taken
 taken-turned sc book state posting reply e =
     sym (ap (λ o. option_map_or (λ reply. (reply, state)) o (told_of_judged sc book state posting.worker posting.said)) e)
 
--- one that isn't
+-- a posting that is not turned away
 pub taken-told : (sc : Scenario) (book : BookView) (state : CoreState) (posting : Posting) (said : Said) → turned_away sc state posting.worker posting.number ≡ None → posting.said ≡ said → told_of_judged sc book state posting.worker said ≡ taken sc book state posting
 unfolding taken
 taken-told sc book state posting said e s =

@@ -1,4 +1,4 @@
--- The standing query: what it is, where it stands, and what settles it.
+-- The current query: what it asks, where the clock is then, and what settles it. For `clockwork`.
 use Rattle.std.proofs.Common.{◌≡◌, ◌≢◌, ◌∙◌, ℕ, ◌+◌, ◌≤◌, Bool, true, false, not, cond, inl, inr, List, [], ◌∷◌, Option, Some, None, is_none, is_some, refl, sym, ap, subst, MatchOption}
 use Rattle.std.specs.Prelude.{⊤}
 use Rattle.std.proofs.lemmas.Bool.{both_ways, cases_Bool, cond-false, false≢true, true≢false}
@@ -26,7 +26,7 @@ use Rattle.auction_core.proofs.Keeps.{task-is}
 use Rattle.auction_core.proofs.Touched.{touched-tested}
 use Rattle.auction_core.proofs.Walk.{off-air, shown-number}
 
--- ---- how the start stands
+-- ---- how the start was settled
 
 pub some-start : (o : Option Shown) → o ≢ None → is_none o ≡ false
 some-start None h = absurd (h refl)
@@ -36,7 +36,7 @@ fits-some : (o : Option Shown) → start_fits o ≡ true → is_none o ≡ false
 fits-some None h = absurd (false≢true h)
 fits-some (Some shown) h = refl
 
--- what a test of the start tells
+-- what the check `is_some` of the start says
 pub none-told : (o p : Option Shown) (b : Bool) → p ≡ o → is_some p ≡ not b → b ≡ true → o ≡ None
 none-told o p b same e h = go o (ap is_some (sym same) ∙ (e ∙ ap not h))
   where
@@ -51,11 +51,11 @@ some-told o p b same e h = go o (ap is_some (sym same) ∙ (e ∙ ap not h))
     go None k = absurd (false≢true k)
     go (Some shown) k = refl
 
--- an auction that has ended was begun
+-- an auction that has ended has its start settled
 pub ended-begun : (sc : Scenario) (state : CoreState) → has_ended state ≡ true → state.start ≢ None
 ended-begun sc state e none = false≢true (sym (ap (λ o. cond (is_none o) false (is_empty state.left)) none) ∙ e)
 
--- ---- the query, by how the start stands
+-- ---- the query, by how the start was settled
 
 pub task-start : (sc : Scenario) (book : BookView) (state : CoreState) → state.start ≡ None → Some (start_task sc state.number) ≡ task_of sc book state
 task-start sc book state e = sym (task-is sc book state None state.left e refl)
@@ -71,7 +71,7 @@ task-ended sc book state e =
     ] in
     go state.start state.left e ∙ sym (task-is sc book state state.start state.left refl refl)
 
--- where none stands the auction has ended
+-- without a current query the auction has ended
 pub no-task : (sc : Scenario) (book : BookView) (state : CoreState) → has_ended state ≡ false → task_of sc book state ≡ None → ⊥
 no-task sc book state on none =
     let go : (o : Option Shown) (l : List ClockTest) → cond (is_none o) false (is_empty l) ≡ false → cond (is_none o) (Some (start_task sc state.number)) (first_task sc book state l) ≡ None → ⊥ = λ o l. elim o as (λ o. cond (is_none o) false (is_empty l) ≡ false → cond (is_none o) (Some (start_task sc state.number)) (first_task sc book state l) ≡ None → ⊥) [
@@ -83,7 +83,7 @@ no-task sc book state on none =
     ] in
     go state.start state.left on (sym (task-is sc book state state.start state.left refl refl) ∙ none)
 
--- what holds of the start's query and of each test's holds of the standing one
+-- a fact that holds of the start's query and of each test's holds of the current query
 pub task-has : (sc : Scenario) (book : BookView) (state : CoreState) (P : Task → Type 0) → P (start_task sc state.number) → ((t : ClockTest) → P (test_task sc book state t)) → (task : Task) → task_of sc book state ≡ Some task → P task
 task-has sc book state P start test task e =
     let go : (o : Option Shown) (l : List ClockTest) → cond (is_none o) (Some (start_task sc state.number)) (first_task sc book state l) ≡ Some task → P task = λ o l. elim o as (λ o. cond (is_none o) (Some (start_task sc state.number)) (first_task sc book state l) ≡ Some task → P task) [
@@ -95,7 +95,7 @@ task-has sc book state P start test task e =
     ] in
     go state.start state.left (sym (task-is sc book state state.start state.left refl refl) ∙ e)
 
--- the check of an answer may be asked of any query
+-- the check of an answer may be called for any query
 pub task-ascends : (sc : Scenario) (book : BookView) (state : CoreState) → IsOfAuction sc book → MatchOption (task_of sc book state) ⊤ (IsTaskOf book)
 unfolding task_of
 task-ascends sc book state a =
@@ -110,7 +110,7 @@ task-ascends sc book state a =
     ] in
     go (is_none state.start)
 
--- ---- the query, by where the clock stands
+-- ---- the query, in terms of the clock
 
 -- the clock runs, and the next test is due and needs a query
 pub record IsAtQuery (s : SetupView) (c : CourseView) : Type 0 where
@@ -118,7 +118,7 @@ pub record IsAtQuery (s : SetupView) (c : CourseView) : Type 0 where
   pub due : IsDue s c
   pub unasked : unasked_of s c ≡ None
 
--- where a query stands once the start was settled
+-- a query after the start was settled is at a test that is due
 next-query : (s : SetupView) (c : CourseView) (number : ℕ) → (start_fits c.start ≡ true → IsAtRest s c) → is_none c.start ≡ false → has_ended (core_state s c number) ≡ false → IsAtQuery s c
 next-query s c number rest some on =
     let left : is_empty (left_of s c) ≡ false = sym (cond-false (is_none c.start) false (is_empty (left_of s c)) some) ∙ on in
@@ -133,7 +133,7 @@ next-query s c number rest some on =
 pub standing-query : (s : SetupView) (c : CourseView) (number : ℕ) (state : CoreState) → IsClockwork s c number → core_state s c number ≡ state → is_none c.start ≡ false → has_ended state ≡ false → IsAtQuery s c
 standing-query s c number state h is some on = next-query s c number h.rest some (ap has_ended is ∙ on)
 
--- it is that of the next test
+-- the current query is that of the next test
 pub task-test : (s : SetupView) (c : CourseView) (number : ℕ) → IsCourse s c → IsAtQuery s c → Some (test_task s.scenario s.book (core_state s c number) (next_test s c)) ≡ task_of s.scenario s.book (core_state s c number)
 task-test s c number h q =
     sym (task-is s.scenario s.book (core_state s c number) c.start (next_test s c ∷ tests_left s c.round (c.turn + 1)) refl (due-left s c q.running h q.due)
@@ -143,7 +143,7 @@ task-test s c number h q =
 pub labels-most : (s : SetupView) (c : CourseView) → IsCourse s c → (z : ℕ) → label_of c.past.parts z ≤ c.past.on_air
 labels-most s c h z = subst (λ n. label_of c.past.parts z ≤ n) (sym h.past.on_air) (h.past.parts.most z)
 
--- and the labels tell what the next test asks about
+-- the labels determine what the next test asks about
 pub query-set : (s : SetupView) (c : CourseView) → IsCourse s c → IsAtQuery s c → touched_set s.book c.past.parts (next_test s c).station ≡ tested_set s.scenario s.book (clock_of s c) (next_test s c).station
 query-set s c h q =
     let a = sound-auction s h.sound in
@@ -153,11 +153,11 @@ query-set s c h q =
 
 -- ---- what settles the query
 
--- a start that needs none is shown so
+-- a start that needs no query is properly settled without one
 pub bare-shown : (sc : Scenario) (book : BookView) (shown : Shown) → start_unasked sc book ≡ Some shown → IsStartShown sc book shown
 bare-shown sc book shown e = subst (λ o. MatchOption o (IsSettledBy sc book (start_task sc 1) shown) (λ unasked. shown ≡ unasked)) (sym e) refl
 
--- what settles the start's query shows the start
+-- what settles the start's query settles the start properly
 pub start-shown : (sc : Scenario) (book : BookView) (state : CoreState) (shown : Shown) → state.start ≡ None → KeepsTheRule sc book state → SettlesQuery sc book state shown → IsStartShown sc book shown
 start-shown sc book state shown fresh k settles =
     let task : task_of sc book state ≡ Some (start_task sc state.number) = task-is sc book state None state.left fresh refl in
@@ -165,7 +165,7 @@ start-shown sc book state shown fresh k settles =
     let asked : start_unasked sc book ≡ None = subst (λ o. MatchOption o (start_unasked sc book ≡ None) (λ start. IsQueryNext sc book state state.left)) fresh k.query in
     subst (λ o. MatchOption o (IsSettledBy sc book (start_task sc 1) shown) (λ unasked. shown ≡ unasked)) (sym asked) (shown-number sc book (start_task sc state.number) 1 shown by)
 
--- what settles the next test's shows its step
+-- what settles the next test's query settles its step properly
 pub step-shown : (s : SetupView) (c : CourseView) (number : ℕ) (shown : Shown) → IsCourse s c → IsAtQuery s c → SettlesQuery s.scenario s.book (core_state s c number) shown → IsNextShown s c shown
 step-shown s c number shown h q settles =
     let t = next_test s c in

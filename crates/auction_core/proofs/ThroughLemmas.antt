@@ -1,4 +1,4 @@
--- Going through a clock's tests with steps: one step on, and how many queries the steps took.
+-- Going through a clock's tests with steps: one more step, and how many queries the steps took.
 use Rattle.std.proofs.Common.{◌≡◌, ℕ, ◌+◌, Bool, true, false, cond, if◌then◌else◌, List, [], ◌∷◌, ◌++◌, Option, Some, None, option_map, refl, sym, ap, ap₂, ◌∙◌, arith, inl, inr, append-nil}
 use Rattle.std.specs.Option.{option_map_or}
 use Rattle.std.proofs.lemmas.List.Sums.{sum_by-append}
@@ -18,7 +18,7 @@ use Rattle.auction_core.specs.NotShown.{NotShown, next_asked, query_fault}
 use Rattle.auction_core.specs.Prefix.{go_through, queries_taken, resumed, took_query}
 use Rattle.auction_core.proofs.Sets.{unasked-cases}
 
--- ---- the tests that a state says are left have no part in it
+-- ---- the tests left in the state play no part
 
 go-on-left : (sc : Scenario) (book : BookView) (ts : List ClockTest) (state : CoreState) (l : List ClockTest) → go_on sc book ts (record state { left = l }) ≡ go_on sc book ts state
 go-on-left sc book [] state l = refl
@@ -42,12 +42,12 @@ through-left sc book (t ∷ ts) (x ∷ xs) state l =
       | false ↦ through-left sc book ts (x ∷ xs) state l
     ]
 
--- ---- one step on
+-- ---- one more step
 
 no-tests : (t : ClockTest) (ts : List ClockTest) → [] ≡ t ∷ ts → ⊥
 no-tests t ts e = cc
 
--- it settles the next test that is asked
+-- a step settles the next test that is asked
 pub through-next : (sc : Scenario) (book : BookView) (ts : List ClockTest) (t : ClockTest) (rest : List ClockTest) (x : Step) (xs : List Step) (state : CoreState) → next_asked state.clock ts ≡ t ∷ rest
     → go_through sc book ts (x ∷ xs) state ≡ go_through sc book rest xs (settled sc state t x.shown)
 through-next sc book [] t rest x xs state e = absurd (no-tests t rest e)
@@ -76,7 +76,7 @@ taken-more start done x b e =
 no-place : {A : Type 0} (x : A) → Some x ≡ None → ⊥
 no-place x e = cc
 
--- what settles a query took one
+-- what settles a query took a query
 pub took-query : (sc : Scenario) (book : BookView) (task : Task) (shown : Shown) (firsts : List ℕ) → query_fault sc book task shown firsts ≡ None → took_query shown ≡ true
 took-query sc book task Empty firsts e = absurd cc
 took-query sc book task (Fits delta) firsts e = refl
@@ -86,7 +86,7 @@ took-query sc book task (Refuted w how) firsts e = refl
 took-query sc book task (Outside proof) firsts e = refl
 took-query sc book task (Undecided xs) firsts e = refl
 
--- what is settled without one took none
+-- what is settled without a query took none
 pub took-none : (sc : Scenario) (book : BookView) (state : CoreState) (t : ClockTest) (own : Shown) → settled_unasked sc book state t ≡ Some own → took_query own ≡ false
 took-none sc book state t own e = elim (unasked-cases sc book state t own e) as (λ _. took_query own ≡ false) [
   | inl bare ↦ ap took_query bare.1
@@ -95,7 +95,7 @@ took-none sc book state t own e = elim (unasked-cases sc book state t own e) as 
 
 -- ---- the end
 
--- where the steps led is where an auction goes on from them
+-- the state after the steps is the one with which an auction continues
 pub resumed-is : (sc : Scenario) (book : BookView) (order : Order) (start : Shown) (done : List Step) (xs : List TranscriptStep) (found : Option NotShown) (state : CoreState) → shows_room start ≡ true → IsAt sc book order start done xs found state
     → state ≡ resumed sc book order (Some start) done
 unfolding resumed

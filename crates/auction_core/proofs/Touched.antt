@@ -1,4 +1,4 @@
--- What a test asks about, by the labels that its station touches: by marks for these, and by the rule.
+-- What a test asks about, from the marks of the labels that its station touches, and by the rule. For `parts::touched_on`.
 use Rattle.std.proofs.Common.{◌≡◌, ℕ, ◌+◌, ◌<◌, ◌≤◌, Bool, true, false, not, ◌==◌, ◌&&◌, ◌||◌, List, [], ◌∷◌, ◌++◌, filter, length, get_or, set, take, replicate, cond, Contains, refl, sym, ap, ◌∙◌, subst, ⊎_elim, eqb-true, eq-eqb, arith, append-nil, length-set, get_or-set_other, get_or-set_same}
 use Rattle.std.specs.List.{list_any}
 use Rattle.std.proofs.lemmas.Bool.{and_parts, and_from, or_cases, or_left, or_right, both_ways}
@@ -27,14 +27,14 @@ marked-length : (label : ℕ → ℕ) (vs : List ℕ) (marks : List Bool) → le
 marked-length label [] marks = refl
 marked-length label (v ∷ vs) marks = marked-length label vs (set marks (label v) true) ∙ length-set marks (label v) true
 
--- there is a mark for each label: at first, and still once some are marked
+-- there is a mark for each label, also after some are marked
 pub marks-made : (label : ℕ → ℕ) (most : ℕ) (none : List Bool) → ((z : ℕ) → label z ≤ most) → none ≡ replicate (most + 1) false → (z : ℕ) → label z < length none
 marks-made label most none low is z = let h = low z in omega (arith, h, ap length is, length-replicate (most + 1) false)
 
 pub marks-kept : (label : ℕ → ℕ) (vs : List ℕ) (before after : List Bool) → ((z : ℕ) → label z < length before) → after ≡ marked label vs before → (z : ℕ) → label z < length after
 marks-kept label vs before after inside is z = let h = inside z in omega (arith, h, ap length is, marked-length label vs before)
 
--- a label is marked where one of these has it, or it was before
+-- a label is marked if one of these stations has it, or if it was marked before
 has-mark : (label : ℕ → ℕ) (vs : List ℕ) (marks : List Bool) (l : ℕ) → ((z : ℕ) → label z < length marks) → get_or (marked label vs marks) l false ≡ (list_any (λ v. label v == l) vs || get_or marks l false)
 has-mark label [] marks l inside = refl
 has-mark label (v ∷ vs) marks l inside =
@@ -48,7 +48,7 @@ has-mark label (v ∷ vs) marks l inside =
     ]) refl in
     rest ∙ (ap (λ b. list_any (λ w. label w == l) vs || b) one ∙ or_turned (list_any (λ w. label w == l) vs) (label v == l) (get_or marks l false))
 
--- no station without a label is asked about, so it doesn't matter whether 0 is marked
+-- a test asks about no station without a label, so the mark of 0 does not matter
 some-label : (label : ℕ → ℕ) (vs : List ℕ) (l : ℕ) → (l == 0) ≡ false → list_any (λ v. label v == l) vs ≡ meets label vs l
 some-label label [] l some = refl
 some-label label (v ∷ vs) l some =
@@ -67,7 +67,7 @@ or-none : (a b : Bool) → b ≡ false → (a || b) ≡ a
 or-none true b e = refl
 or-none false b e = e
 
--- the marks of the stations near it tell what it touches
+-- the marks of the neighbours determine what the station touches
 pub asked-is : (book : BookView) (parts : PartsView) (s most : ℕ) (near : List ℕ) (marks : List Bool) (set : List ℕ) → ListsNear book s near → ((z : ℕ) → label_of parts z ≤ most) → marks ≡ marked (label_of parts) near (replicate (most + 1) false) → set ≡ filter (λ z. is_asked s marks z (label_of parts z)) parts.stations → set ≡ touched_set book parts s
 asked-is book parts s most near marks set listed low are is =
     is ∙ filter_agree (λ z. is_asked s marks z (label_of parts z)) (λ z. (z == s) || (not (label_of parts z == 0) && touches book (labelled parts) (label_of parts) s (label_of parts z))) (λ z. ap (λ b. (z == s) || b) (alike z)) parts.stations
@@ -91,7 +91,7 @@ asked-is book parts s most near marks set listed low are is =
               ∙ (some-label (label_of parts) near l e ∙ meets-touches book parts s l near listed)))
         ]) refl
 
--- ---- one station more of the pass
+-- ---- one more station of the pass
 
 module _ (s z l i d : ℕ) (marks : List Bool) (fs ls found : List ℕ) (up : is_ascending fs ≡ true) (long : length ls ≡ length fs) (inside : i < length fs) (here : get_or fs i 0 ≡ z) (own : get_or ls i d ≡ l) (so_far : found ≡ filter (λ y. is_asked s marks y (label_in fs ls y)) (take i fs)) where
   abbrev asked : ℕ → Bool
@@ -113,7 +113,7 @@ module _ (s z l i d : ℕ) (marks : List Bool) (fs ls found : List ℕ) (up : is
 
 -- ---- by the rule
 
--- a test of a station that isn't on air asks about what the labels tell
+-- a test of a station off air asks about the stations that the labels determine
 pub touched-tested : (sc : Scenario) (book : BookView) (clock : ClockState) (s : ℕ) (parts : PartsView) → IsAuction sc book → Contains (facilities sc) s → is_on_air clock s ≡ false → IsPartsOf sc book clock parts → touched_set book parts s ≡ tested_set sc book clock s
 touched-tested sc book clock s parts a known off h =
     same-ascending (touched_set book parts s) (tested_set sc book clock s)

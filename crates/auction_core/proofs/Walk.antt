@@ -1,4 +1,4 @@
--- The state goes on from test to test where the clock rule goes.
+-- From test to test, the state moves as the clock rule does.
 use Rattle.std.proofs.Common.{◌≡◌, ℕ, Bool, true, false, ◌||◌, if◌then◌else◌, List, [], ◌∷◌, ◌++◌, map, Option, Some, None, option_map, Contains, refl, sym, ap, ap₂, ◌∙◌, subst, ⊎_elim, MatchOption, append_assoc, append-nil}
 use Rattle.std.specs.Prelude.{slice_get}
 use Rattle.std.specs.Option.{option_map_or}
@@ -30,7 +30,7 @@ use Rattle.auction_core.proofs.Steps.{after_steps-steps, after_steps-push, AreSh
 use Rattle.auction_core.proofs.Sets.{step_of, AreOffAir, fits-stand-step}
 use Rattle.auction_core.proofs.Room.{IsReady, IsOf, room, new-map}
 
--- ---- the number of a query doesn't matter
+-- ---- the number of a query does not matter
 
 valid-number : (sc : Scenario) (book : BookView) (task : Task) (n w : ℕ) (answer : Answer) → IsValidOf sc book task w answer → IsValidOf sc book (record task { number = n }) w answer
 valid-number sc book task n w answer h =
@@ -55,7 +55,7 @@ shown-number sc book task n (Refuted w how) h = valid-number sc book task n w (R
 shown-number sc book task n (Outside proof) h = h
 shown-number sc book task n (Undecided xs) h = receipts-number book task n sc.workers xs h
 
--- the query of a test, by the clock and the map alone
+-- the query of a test, by the clock and the map only
 abbrev task_at : Scenario → BookView → ℕ → ClockState → List (ℕ × ℕ) → ClockTest → Task
 task_at sc book n clock m t =
     let set = tested_set sc book clock t.station in
@@ -65,7 +65,7 @@ match-map : (o : Option Shown) (Q R : Type 0) (P : Shown → Type 0) → (Q → 
 match-map None Q R P f h = f h
 match-map (Some u) Q R P f h = h
 
--- what is shown of a step doesn't depend on more than the clock, the map and the steps
+-- whether a step is properly settled depends on the clock, the map and the steps only
 pub IsStepShown-same : (sc : Scenario) (book : BookView) (a b : CoreState) (x : Step) → a.clock ≡ b.clock → a.map ≡ b.map → a.steps ≡ b.steps → IsStepShown sc book b x → IsStepShown sc book a x
 IsStepShown-same sc book a b x e f g h =
     let t : ClockTest = test_of x in
@@ -89,7 +89,7 @@ no-room (Refuted w how) e = refl
 no-room (Outside proof) e = cc
 no-room (Undecided xs) e = refl
 
--- ---- one test more
+-- ---- one more test
 
 pub ready : (sc : Scenario) (book : BookView) (U before : List ClockTest) (state : CoreState) (s : ℕ) → IsAuction sc book → state.clock ≡ after_tests sc book U before (opening_state sc) → IsOf sc book state.clock state.map → is_active state.clock s ≡ true → IsReady sc book state s
 ready sc book U before state s a e of active = record {
@@ -100,11 +100,11 @@ ready sc book U before state s a e of active = record {
   off_air = not-on-air sc book U before state.clock s a e active;
 }
 
--- the active stations are the scenario's, and not on air
+-- the active stations are the scenario's and not on air
 pub off-air : (sc : Scenario) (book : BookView) (U before : List ClockTest) (clock : ClockState) → IsAuction sc book → clock ≡ after_tests sc book U before (opening_state sc) → AreOffAir sc clock
 off-air sc book U before clock a e s active = (bidder sc book U before clock s e active, not-on-air sc book U before clock s a e active)
 
--- the tests before agree on what is undecided
+-- the two lists agree on whether an earlier test is undecided
 agree : (U before : List ClockTest) (t u : ClockTest) → is_listed before t ≡ false → Contains before u → is_listed (U ++ t ∷ []) u ≡ is_listed U u
 agree U before t u new c =
     let other : same_test t u ≡ false = false_from_ne_true (same_test t u) (λ same.
@@ -116,7 +116,7 @@ agree U before t u new c =
     or-false true = refl
     or-false false = refl
 
--- the undecided tests after the step agree with those before on the tests before
+-- the undecided tests before and after the step agree on the earlier tests
 still : (sc : Scenario) (book : BookView) (start : Shown) (state : CoreState) (before after : List ClockTest) (t : ClockTest) (shown : Shown) → IsAuction sc book → IsWalked sc book start state before → clock_tests sc state.order ≡ before ++ t ∷ after →
     (u : ClockTest) → Contains before u → is_listed (undecided_of (state.steps ++ step_of t shown ∷ [])) u ≡ is_listed (undecided_of state.steps) u
 still sc book start state before after t shown a w parts u c =
@@ -160,7 +160,7 @@ step-tests sc book start state before after t shown a w parts active =
     (ap (λ b. asked_from sc book V before op ++ (if b then t ∷ [] else [])) (sym active') ∙
     sym (asked_in_turn sc book V before (t ∷ []) op)))
 
--- the step of an active station's test, shown as it has to be, goes on where the rule goes
+-- the properly settled step of an active station's test moves the state as the rule does
 pub walk-step : (sc : Scenario) (book : BookView) (start : Shown) (state : CoreState) (before after : List ClockTest) (t : ClockTest) (shown : Shown) → IsAuction sc book → IsWalked sc book start state before → clock_tests sc state.order ≡ before ++ t ∷ after → is_active state.clock t.station ≡ true → IsStepShown sc book state (step_of t shown) → IsWalked sc book start (settled sc state t shown) (before ++ t ∷ [])
 walk-step sc book start state before after t shown a w parts active h =
     let walked : CoreState = after_steps sc (after_start sc state.order start) state.steps in
@@ -178,7 +178,7 @@ walk-step sc book start state before after t shown a w parts active h =
       fits = fits-stand-step sc book state t shown a (off-air sc book (undecided_of state.steps) before state.clock a w.clock) active w.fits h;
     }
 
--- a test of a station that isn't active is passed over
+-- a test of a station that is not active is skipped
 pub walk-skip : (sc : Scenario) (book : BookView) (start : Shown) (state : CoreState) (before : List ClockTest) (t : ClockTest) → IsWalked sc book start state before → is_active state.clock t.station ≡ false → IsWalked sc book start state (before ++ t ∷ [])
 walk-skip sc book start state before t w idle =
     let U : List ClockTest = undecided_of state.steps in
@@ -196,7 +196,7 @@ walk-skip sc book start state before t w idle =
       fits = w.fits;
     }
 
--- the state at the next query, or at the end, stands where the rule comes to
+-- the state at the next query, or at the end, is where the rule leads
 pub go-on-keeps : (sc : Scenario) (book : BookView) (start : Shown) (ts : List ClockTest) (state : CoreState) (before : List ClockTest) → IsAuction sc book → IsWalked sc book start state before → clock_tests sc state.order ≡ before ++ ts → IsUnderWay sc book start (go_on sc book ts state)
 go-on-keeps sc book start [] state before a w parts = record {
   before = before;

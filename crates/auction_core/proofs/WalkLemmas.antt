@@ -1,4 +1,4 @@
--- The walk over the steps of a transcript, beside the walk of the clock rule.
+-- The walk over the steps of a transcript and the walk of the clock rule, side by side.
 use Rattle.std.proofs.Common.{◌≡◌, ℕ, ◌+◌, Bool, true, false, ◌&&◌, ◌==◌, if◌then◌else◌, List, [], ◌∷◌, ◌++◌, map, Option, Some, None, refl, sym, ap, ap₂, subst, ◌∙◌, append_assoc, append-nil, eqb-true, eq-eqb}
 use Rattle.std.proofs.lemmas.Bool.{and_parts, and_from}
 use Rattle.pack_defs.specs.declared.scenario.Scenario.{Scenario}
@@ -41,7 +41,7 @@ same-tests t x e =
 
 -- ---- from no fault to the rule
 
--- the tests that are passed over before the next one that is asked
+-- the tests that are skipped before the next one that is asked
 pub record IsPassed (sc : Scenario) (book : BookView) (start : Shown) (state : CoreState) (left : List ClockTest) : Type 0 where
   pub before : List ClockTest
   pub walked : IsWalked sc book start state before
@@ -71,7 +71,7 @@ passed sc book start state before (t ∷ ts) w parts =
     }
     go false idle rest = rest idle
 
--- what steps without a fault leave
+-- what steps without a fault lead to
 pub record IsFollowed (sc : Scenario) (book : BookView) (start : Shown) (state : CoreState) (xs : List TranscriptStep) : Type 0 where
   pub walked : IsWalked sc book start (after_steps sc state (steps_in xs)) (clock_tests sc state.order)
   pub numbered : AreNumbered sc book state xs
@@ -128,7 +128,7 @@ active-fault : (sc : Scenario) (book : BookView) (step : ℕ) (state : CoreState
 unfolding steps_fault
 active-fault sc book step state t ts x xs active same none rest = rw (active, is-test t x same, none) rest
 
--- steps that are the tests that the rule asks, each shown and numbered as it has to be, have no fault
+-- properly settled and numbered steps of the tests that the rule asks have no fault
 pub ruled : (sc : Scenario) (book : BookView) (U ts done : List ClockTest) (step : ℕ) (state : CoreState) (xs : List TranscriptStep) → IsAuction sc book → state.clock ≡ after_tests sc book U done (opening_state sc) → IsOf sc book state.clock state.map → FitsStand sc book state
     → map test_of (steps_in xs) ≡ asked_from sc book U ts state.clock → AreShown sc book state (steps_in xs) → AreNumbered sc book state xs → AreListed U (steps_in xs)
     → steps_fault sc book step state ts xs ≡ None

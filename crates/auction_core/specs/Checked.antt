@@ -1,4 +1,4 @@
--- What the check of one step tells, by where the auction stands.
+-- What the check of one step reports, in terms of the state of the auction that is carried out again.
 use Rattle.std.specs.Prelude.{ℕ, Bool, true, false, ◌≡◌, ◌⊎◌, ◌&&◌, ◌+◌, ◌≤◌, ◌==◌, ◌++◌, if◌then◌else◌, List, [], length, slice_get, Option, Some, None, option_map}
 use Rattle.std.specs.Option.{option_map_or}
 use Rattle.pack_defs.specs.declared.order.Order.{Order}
@@ -34,68 +34,70 @@ use Rattle.auction_core.specs.LogNumbers.{steps_in}
 use Rattle.auction_core.specs.NotShown.{NotShown, is_bare, is_like_before, not_shown, or_first_line, query_fault, steps_fault, unasked_fault}
 use Rattle.auction_core.specs.Prefix.{go_through, queries_taken}
 
--- the fault of a step that was settled without a query as this one
+-- The fault of a transcript step, given the auction's own step, which was settled without a query.
 abbrev pub unasked_told : Step → TranscriptStep → Option ShownWhy
 unasked_told own x =
     if own.round == x.step.round && own.station == x.step.station
     then option_map NotValid (unasked_fault x own.shown)
     else Some Why.Order
 
--- what is kept of a step shows its test so
+-- Whether the transcript settles a step in the way of this step kind, which needed no query.
 abbrev pub shows_so : Way → ℕ → Shown → Bool
 shows_so Verdict s shown = false
 shows_so LikeBefore s shown = is_like_before shown
 shows_so Bare s shown = is_bare s shown
 
--- the same fault, by what is kept of the step that was settled without a query
+-- The fault of a transcript step, given the line of the auction's own step, which was settled without a query.
 abbrev pub line_told : StepLine → TranscriptStep → Option ShownWhy
 line_told own x =
     if own.round == x.step.round && own.station == x.step.station
     then option_map NotValid (unless (shows_so own.way own.station x.step.shown && is_empty x.firsts) Kind None)
     else Some Why.Order
 
--- the station is the one that the query is about
+-- Whether the station is the one that the query is about.
 abbrev pub is_about : Option ℕ → ℕ → Bool
 is_about None s = false
 is_about (Some t) s = t == s
 
--- the fault of a step that is to settle this query
+-- The fault of a transcript step that is to settle this query.
 abbrev pub task_told : Scenario → BookView → Task → TranscriptStep → Option ShownWhy
 task_told sc book task x =
     if task.round == x.step.round && is_about task.station x.step.station
     then option_map NotValid (query_fault sc book task x.step.shown x.firsts)
     else Some Why.Order
 
+-- The fault of a transcript step that is to settle the current query; out of order if there is none.
 abbrev pub query_told : Scenario → BookView → CoreState → TranscriptStep → Option ShownWhy
 query_told sc book state x = option_map_or (λ task. task_told sc book task x) (task_of sc book state) (Some Why.Order)
 
--- the fault of the step at this place: one that was settled without a query, or one that is to settle the standing query
+-- The fault of the transcript step at this place: it must match a step that was settled without a query, or settle the current
+-- query.
 abbrev pub step_told : Scenario → BookView → CoreState → ℕ → TranscriptStep → Option ShownWhy
 step_told sc book state place x =
     option_map_or (λ own. unasked_told own x) (slice_get state.steps place) (query_told sc book state x)
 
--- the state behind it
+-- The state after the transcript step at this place.
 abbrev pub step_leaves : Scenario → BookView → CoreState → ℕ → TranscriptStep → CoreState
 step_leaves sc book state place x =
     option_map_or (λ own. state) (slice_get state.steps place) (answered sc book state x.step.shown)
 
--- the fault is what a check of a step tells, unless memory ran out
+-- Whether the error reports this fault, unless memory ran out.
 abbrev pub IsStepFault : StepErr → Option ShownWhy → Type 0
 IsStepFault (step.Fault why) told = told ≡ Some why
 IsStepFault step.NoMemory told = Unit {0}
 
--- what a refusal of the check of an answer comes to
+-- The error of a step whose answer was rejected for this reason.
 abbrev pub step_err : CertifyWhy → StepErr
 step_err (Rejected place) = step.Fault (NotValid place)
 step_err certify.NoMemory = step.NoMemory
 
--- a receipt's fault, by whether its log's first line has the right number
+-- The first error of a log, given whether its first line has the right number.
 abbrev pub numbered_fault : Bool → Option Place → Option Place
 numbered_fault true fault = fault
 numbered_fault false fault = or_first_line fault
 
--- The auction, whose rounds test in this order, stands where these steps led: its number is that of the queries that they took,
--- and going through more steps from there goes through all. The walk over the steps that are left finds this.
+-- Whether the auction is where these steps lead: its number counts the queries that the steps took, and going through further steps
+-- from here is going through all steps from the start. `found` is the first error of the steps that are left.
 pub record IsAt (sc : Scenario) (book : BookView) (order : Order) (start : Shown) (done : List Step) (xs : List TranscriptStep) (found : Option NotShown) (state : CoreState) : Type 0 where
   pub at : CoreState
   pub left : List ClockTest
@@ -108,11 +110,11 @@ pub record IsAt (sc : Scenario) (book : BookView) (order : Order) (start : Shown
   pub through : (more : List Step) (n : ℕ) (l : List ClockTest) → go_through sc book (clock_tests sc order) (done ++ more) (record (after_start sc order start) { number = n }) ≡ go_through sc book left more (record at { left = l; noted = []; number = n })
   pub rest : steps_fault sc book (length done + 1) at left xs ≡ found
 
--- what the walk over all steps of a transcript finds
+-- The first error among all steps of a transcript, the start excepted.
 abbrev pub found_in : Scenario → BookView → Transcript → Option NotShown
 found_in sc book t = steps_fault sc book 1 (after_start sc t.order t.start) (clock_tests sc t.order) t.steps
 
--- the start was shown as empty
+-- Whether the start test was settled by an empty start set.
 abbrev pub is_empty_shown : Option Shown → Bool
 is_empty_shown None = false
 is_empty_shown (Some Empty) = true
@@ -123,13 +125,14 @@ is_empty_shown (Some (Refuted w how)) = false
 is_empty_shown (Some (Outside proof)) = false
 is_empty_shown (Some (Undecided xs)) = false
 
--- an error at the end: a step is missing behind this many, since the auction has not ended or has other steps
+-- Whether the error is one at the end: a step is missing after this many, because the auction has not ended or has a different
+-- number of steps.
 abbrev pub FinishTells : ResumeErr → CoreState → ℕ → Type 0
 FinishTells (resume.NotShown step why) state steps =
     (step ≡ steps + 1) × (why ≡ Why.Order) × ((has_ended state ≡ false) ⊎ (length state.steps ≡ steps → ⊥))
 FinishTells resume.NoMemory state steps = Unit {0}
 
--- the start and every step are shown, and the auction has ended behind them
+-- Whether the start and every step are proved, and the auction has ended after them.
 pub record IsAllShown (sc : Scenario) (book : BookView) (t : Transcript) (state : CoreState) : Type 0 where
   pub ended : has_ended state ≡ true
   pub none : not_shown sc book t ≡ None
@@ -137,7 +140,7 @@ pub record IsAllShown (sc : Scenario) (book : BookView) (t : Transcript) (state 
   pub start : state.start ≡ Some t.start
   pub order : state.order ≡ t.order
 
--- the fault is of the start or of one of this many steps
+-- Whether the error is in the start or in one of this many steps; always true if memory ran out.
 abbrev pub IsEarly : ResumeErr → ℕ → Type 0
 IsEarly (resume.NotShown step why) steps = step ≤ steps
 IsEarly resume.NoMemory steps = Unit {0}

@@ -1,4 +1,4 @@
--- An auction between two queries, as the program keeps it.
+-- A query session, an auction between two queries, as the program keeps it.
 use Rattle.std.specs.Prelude.{ℕ, Bool, ◌≡◌, ◌+◌, ◌≤◌, length, None, true}
 use Rattle.pack_defs.specs.Book.{BookView}
 use Rattle.pack_defs.specs.declared.scenario.Scenario.{Scenario}
@@ -8,14 +8,14 @@ use Rattle.auction_core.specs.Rule.{KeepsTheRule}
 use Rattle.auction_core.specs.Setup.{SetupView}
 use Rattle.auction_core.specs.State.{CoreState, start_fits}
 
--- the auction's scenario and book, its state, and whether there is room for all the steps that one answer can settle
+-- An auction between two queries: its scenario, book and state, and whether there is room for all steps that one answer can add.
 pub record ClockworkView : Type 0 where
   pub scenario : Scenario
   pub book : BookView
   pub state : CoreState
   pub ready : Bool
 
--- What the program keeps between two queries says where the auction stands, which keeps the clock rule.
+-- Whether this setup, clock run and query number form an auction between two queries that keeps the clock rule.
 pub record IsClockwork (s : SetupView) (c : CourseView) (number : ℕ) : Type 0 where
   pub course : IsCourse s c
   pub rest : start_fits c.start ≡ true → IsAtRest s c

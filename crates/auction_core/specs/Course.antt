@@ -1,5 +1,5 @@
--- Where the clock stands between two tests, as the program keeps it: a standing for each station, and where the next test's
--- station comes in its round. That it is so kept is this project's own.
+-- A clock run, the clock between two tests, as the program keeps it: a standing for each station, and the turn of the next test in
+-- its round. The representation is this project's own.
 use Rattle.std.specs.Prelude.{ℕ, Bool, false, not, ◌+◌, ◌-◌, ◌*◌, ◌<◌, ◌≤◌, ◌≡◌, ◌⊎◌, ◌&&◌, nat_le, if◌then◌else◌, true, List, [], ◌∷◌, ◌++◌, map, filter, drop, length, slice_index, Option, None, Some}
 use Rattle.pack_defs.specs.Lists.{has_station, is_in}
 use Rattle.pack_defs.specs.ChannelMap.{overlaid}
@@ -18,8 +18,8 @@ use Rattle.auction_core.specs.Setup.{IsSetupSound, SetupView}
 use Rattle.auction_core.specs.State.{CoreState, last_fit, settled, settled_unasked, start_delta, start_fits}
 use Rattle.auction_core.specs.Walked.{IsWalked}
 
--- How the start was shown, if it was; where each station stands, and what the frozen ones are paid; the map of those on air;
--- what is kept of the tests so far; the round of the next test, and where its station comes in the round.
+-- A clock run: how the start was settled, if it was; the standings and payments; the map of the stations on air; the test history;
+-- the round of the next test, and the turn of its station in the round.
 pub record CourseView : Type 0 where
   pub start : Option Shown
   pub clock : ClockView
@@ -28,29 +28,29 @@ pub record CourseView : Type 0 where
   pub round : ℕ
   pub turn : ℕ
 
--- the test of the station that comes here in this round
+-- The test of the station whose turn in the round is i.
 abbrev pub test_at : SetupView → ℕ → ℕ → ClockTest
 test_at s round i = record { round = round; station = slice_index (turns s.scenario s.order) i }
 
--- the next test
+-- The next test.
 abbrev pub next_test : SetupView → CourseView → ClockTest
 next_test s c = test_at s c.round c.turn
 
--- the clock's tests from that of the station that comes here in this round on
+-- The tests of the clock that are left from turn i of this round on.
 abbrev pub tests_left : SetupView → ℕ → ℕ → List ClockTest
 tests_left s round i =
     map (λ f. record { round = round; station = f }) (filter (λ f. not (declines s.scenario f 0)) (drop i (turns s.scenario s.order)))
     ++ tests_of (bidders_in_turn s.scenario s.order) (round + 1) (last_round s.scenario - round)
 
--- the clock that the steps leave
+-- The state of the clock after the steps so far.
 abbrev pub clock_of : SetupView → CourseView → ClockState
 clock_of s c = (after_steps s.scenario (after_start s.scenario s.order (shown_start c.start)) c.past.steps).clock
 
--- the tests that are left; none before the start set was shown to fit
+-- The tests that are left; none before the start set was shown to fit.
 abbrev pub left_of : SetupView → CourseView → List ClockTest
 left_of s c = if start_fits c.start then tests_left s c.round c.turn else []
 
--- the state of the auction at the query of this number, with no receipt noted
+-- The state of the auction at the query of this number, with no pending receipt.
 abbrev pub core_state : SetupView → CourseView → ℕ → CoreState
 core_state s c number = record {
   order = s.order;
@@ -63,23 +63,23 @@ core_state s c number = record {
   number = number;
 }
 
--- what is kept once the start is shown so: where it fits, the map takes its channels
+-- The clock run once the start test is settled in this way: if it fits, the map takes its channels.
 abbrev pub with_start_shown : CourseView → Shown → CourseView
 with_start_shown c shown = record c {
   start = Some shown;
   map = record { stations = c.map.stations; entries = overlaid c.map.entries (start_delta shown) };
 }
 
--- the map once a station stands so: overwritten by these channels, where it is on air
+-- The map once a station has this standing: overwritten with these channels if the station is on air.
 abbrev pub map_after : List (ℕ × ℕ) → Standing → List (ℕ × ℕ) → List (ℕ × ℕ)
 map_after entries standing delta = if stands_on_air standing then overlaid entries delta else entries
 
--- the entries give channels to stations of the scenario alone
+-- Whether the entries give channels to stations of the scenario only.
 abbrev pub GivesWithin : Scenario → List (ℕ × ℕ) → Type 0
 GivesWithin sc delta = (s : ℕ) → has_station delta s ≡ true → is_in (facilities sc) s ≡ true
 
--- What is kept of the tests so far goes with the clock: the parts are those of the stations on air, the numbers are how many
--- of them there are and were, and the fits give channels to the scenario's stations alone.
+-- Whether the test history matches the clock: the labels are those of the stations on air, the counts of stations on air are right,
+-- and the fits give channels to the scenario's stations only.
 pub record KeepsPast (s : SetupView) (c : CourseView) : Type 0 where
   pub parts : IsPartsOf s.scenario s.book (clock_of s c) c.past.parts
   pub on_air : c.past.on_air ≡ length (clock_of s c).on_air
@@ -87,20 +87,21 @@ pub record KeepsPast (s : SetupView) (c : CourseView) : Type 0 where
   pub seen : (i : ℕ) → i < length s.scenario.stations → slice_index c.past.seen i ≡ last_seen s.scenario (opening_state s.scenario) c.past.steps (slice_index (facilities s.scenario) i) 0
   pub fits : (f : ℕ) → GivesWithin s.scenario (last_fit c.past.steps f [])
 
--- The steps so far are those of the tests before the next one, by the clock rule.
+-- Whether the steps so far are those of the tests before the next one, by the clock rule.
 pub record GoesByRule (s : SetupView) (c : CourseView) : Type 0 where
   pub before : List ClockTest
-  pub parts : before ++ left_of s c ≡ clock_tests s.scenario s.order
+  pub all_tests : before ++ left_of s c ≡ clock_tests s.scenario s.order
   pub walked : IsWalked s.scenario s.book (shown_start c.start) (core_state s c 0) before
 
--- The clock has not moved: there is no step and no map, and the next test is the first.
+-- Whether the clock has not moved: there is no step and no map entry, and the next test is the first.
 pub record IsIdle (c : CourseView) : Type 0 where
   pub steps : c.past.steps ≡ []
   pub map : c.map.entries ≡ []
   pub round : c.round ≡ 1
   pub turn : c.turn ≡ 0
 
--- What the program keeps says where the clock stands.
+-- Whether the fields of the clock run fit together: the standings, payments and test history are those of the clock's state, and
+-- the steps obey the clock rule.
 pub record IsCourse (s : SetupView) (c : CourseView) : Type 0 where
   pub sound : IsSetupSound s
   pub clock : IsClockOf s.scenario (clock_of s c) c.clock
@@ -114,34 +115,34 @@ pub record IsCourse (s : SetupView) (c : CourseView) : Type 0 where
   pub past : KeepsPast s c
   pub rule : start_fits c.start ≡ true → GoesByRule s c
 
--- no test is left
+-- Whether no test is left: the last turn of the last round is over.
 abbrev pub IsOver : SetupView → CourseView → Type 0
 IsOver s c = (c.turn ≡ length s.scenario.stations) × (c.round ≡ last_round s.scenario)
 
--- the next test is of an active station
+-- Whether the next test is of an active station.
 pub record IsDue (s : SetupView) (c : CourseView) : Type 0 where
   pub turn : c.turn < length s.scenario.stations
   pub active : is_active (clock_of s c) (next_test s c).station ≡ true
 
--- how the next test is settled without a query, if it is
+-- How the next test is settled without a query; `None` if it needs one.
 abbrev pub unasked_of : SetupView → CourseView → Option Shown
 unasked_of s c = settled_unasked s.scenario s.book (core_state s c 0) (next_test s c)
 
--- the clock has stopped: at a test that needs a query, or at the end
+-- Whether the clock is at rest: at a test that needs a query, or at the end.
 abbrev pub IsAtRest : SetupView → CourseView → Type 0
 IsAtRest s c = IsOver s c ⊎ (IsDue s c × (unasked_of s c ≡ None))
 
--- The next test was settled so: what is kept says where the clock stands now, the auction's state is settled, and the tests
--- behind this one are left.
+-- Whether `new` is `old` with its next test settled in this way: the fields still fit together, the state has the step, and the
+-- tests after this one are left.
 pub record IsSettled (s : SetupView) (shown : Shown) (old new : CourseView) : Type 0 where
   pub holds : IsCourse s new
   pub state : (n : ℕ) → core_state s new n ≡ record (settled s.scenario (core_state s old n) (next_test s old) shown) { left = left_of s new }
   pub left : left_of s old ≡ next_test s old ∷ left_of s new
 
--- how many turns the clock has still to pass, the ends of rounds among them
+-- The number of turns that are left, counting the end of each round as one.
 abbrev pub turns_left : SetupView → CourseView → ℕ
 turns_left s c = (last_round s.scenario - c.round) * (length s.scenario.stations + 1) + (length s.scenario.stations - c.turn)
 
--- there is room for a step of every test that is left, and for the verdict of one
+-- Whether there is room for a step of every test that is left, and for one verdict.
 abbrev pub is_roomy : SetupView → CourseView → Bool
 is_roomy s c = nat_le (turns_left s c) c.past.room && nat_le 1 c.past.verdicts

@@ -1,5 +1,5 @@
--- The numbers with which the logs of a transcript's steps begin. That a log over the clauses of its test's set is numbered on
--- from them is LRAT's way; which logs a step has is this project's own.
+-- The numbers with which the logs of a transcript's steps begin. As in LRAT (Cruz-Filipe et al. 2017), the lines of a log are
+-- numbered on from the clauses of its formula. Which steps have a log is this project's own rule.
 use Rattle.std.specs.Prelude.{ℕ, ◌+◌, ◌≡◌, List, [], ◌∷◌, map, length}
 use Rattle.pack_defs.specs.Book.{BookView}
 use Rattle.pack_defs.specs.declared.scenario.Scenario.{Scenario}
@@ -13,21 +13,21 @@ use Rattle.auction_core.specs.declared.record.Step.{Step}
 use Rattle.auction_core.specs.declared.transcript.TranscriptStep.{TranscriptStep}
 use Rattle.auction_core.specs.State.{CoreState, settled, test_of, tested_set}
 
--- how many clauses the formula of a set has
+-- The number of clauses in the packing formula of a set of stations.
 abbrev pub clauses_in : BookView → List ℕ → ℕ
 clauses_in book set = length (packing_formula book set)
 
--- the number of the first line of a log over this many clauses; 0 where it has no line
+-- The number of the first line of a log over this many clauses; 0 if the log has no line.
 abbrev pub first_number : ℕ → List Line → ℕ
 first_number clauses [] = 0
 first_number clauses (x ∷ xs) = clauses + 1
 
--- the same of a receipt's log
+-- The number of the first line of a receipt's log; 0 if the receipt has no log or the log has no line.
 abbrev pub first_of : ℕ → Receipt → ℕ
 first_of clauses (Lines log) = first_number clauses log.lines
 first_of clauses (Moves moves) = 0
 
--- the same of each log of a step that is over the clauses of its test's set
+-- The number of the first line of each log of a step that extends the clauses of its test's set.
 abbrev pub firsts_of : ℕ → Shown → List ℕ
 firsts_of clauses Empty = []
 firsts_of clauses (Fits delta) = []
@@ -37,16 +37,16 @@ firsts_of clauses (Refuted worker how) = []
 firsts_of clauses (Outside proof) = first_number clauses proof.log.lines ∷ []
 firsts_of clauses (Undecided receipts) = map (first_of clauses) receipts
 
--- the steps, without the numbers of their logs' lines
+-- The steps of a transcript, without the line numbers of their logs.
 abbrev pub steps_in : List TranscriptStep → List Step
 steps_in xs = map (λ x. x.step) xs
 
--- of each log of the step over the clauses of the test's set, the number of its first line is one above these clauses
+-- Whether the step's logs begin with the right numbers in this state.
 abbrev pub IsNumbered : Scenario → BookView → CoreState → TranscriptStep → Type 0
 IsNumbered sc book state x =
     x.firsts ≡ firsts_of (clauses_in book (tested_set sc book state.clock x.step.station)) x.step.shown
 
--- the same of each of these steps from this state on
+-- Whether the logs of each of these steps begin with the right numbers, from this state on.
 abbrev pub AreNumbered : Scenario → BookView → CoreState → List TranscriptStep → Type 0
 AreNumbered sc book state [] = Unit {0}
 AreNumbered sc book state (x ∷ xs) =

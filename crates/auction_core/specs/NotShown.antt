@@ -1,5 +1,5 @@
--- The first step of a transcript that is not shown, and why. That a step's test comes first, and then the places of its
--- answer in their order, is this project's own.
+-- The first step of a transcript that is not proved, and why. The order of the checks is this project's own: a step's test comes
+-- first, and then the places of its answer in their order.
 use Rattle.std.specs.Prelude.{ℕ, Bool, true, false, not, ◌≡◌, ◌&&◌, ◌+◌, ◌==◌, nat_le, if◌then◌else◌, List, [], ◌∷◌, length, slice_get, Option, Some, None, is_none, unwrap_or}
 use Rattle.std.specs.Option.{option_map_or}
 use Rattle.pack_defs.specs.declared.order.Order.{Order}
@@ -32,15 +32,15 @@ use Rattle.auction_core.specs.declared.prefix.ShownWhy.TheVariants.{Order as Wro
 use Rattle.auction_core.specs.declared.prefix.ResumeErr.{ResumeErr}
 use Rattle.auction_core.specs.declared.prefix.ResumeErr.TheVariants as resume
 
--- a step of a transcript that is not shown, and why: 0 is the start, and the first step after it is 1
+-- A step of a transcript that is not proved, and why. Step 0 is the start; the first step after it is 1.
 pub record NotShown : Type 0 where
   pub step : ℕ
   pub why : ShownWhy
 
--- ---- a step
+-- ---- one step
 
--- The fault of a receipt or of a proof from outside, where its log's first line has a wrong number: that line is at fault,
--- unless an earlier place is.
+-- The first error of a receipt or of a proof from outside whose log's first line has a wrong number: line 1, unless an earlier
+-- place is invalid.
 abbrev pub or_first_line : Option Place → Option Place
 or_first_line None = Some (LineAt 1)
 or_first_line (Some Kind) = Some Kind
@@ -51,18 +51,18 @@ or_first_line (Some (PairOf p)) = Some (LineAt 1)
 or_first_line (Some (LineAt n)) = Some (LineAt 1)
 or_first_line (Some (MoveAt n)) = Some (LineAt 1)
 
--- the fault of a worker's receipt, whose log's first line has this number
+-- The first error of a worker's receipt, given the number of its log's first line.
 abbrev pub receipt_fault : BookView → Task → Worker → Receipt → ℕ → Option Place
 receipt_fault book task worker x first =
     let fault = answer_fault book task worker (Spent x) in
     if first == first_of (clauses_in book task.set) x then fault else or_first_line fault
 
--- the first of two faults
+-- The first of two errors.
 abbrev pub first_place_or : Option Place → Option Place → Option Place
 first_place_or (Some place) rest = Some place
 first_place_or None rest = rest
 
--- the first fault of a receipt of each of these workers, in their order, with the numbers of their logs' first lines
+-- The first error among the receipts of these workers, in their order, given the numbers of their logs' first lines.
 abbrev pub each_fault : BookView → Task → List Worker → List Receipt → List ℕ → Option Place
 each_fault book task [] xs ns = None
 each_fault book task (w ∷ ws) [] ns = None
@@ -70,29 +70,29 @@ each_fault book task (w ∷ ws) (x ∷ xs) [] = None
 each_fault book task (w ∷ ws) (x ∷ xs) (n ∷ ns) =
     first_place_or (receipt_fault book task w x n) (each_fault book task ws xs ns)
 
--- there is a receipt of each worker first
+-- The first error of the receipts of an undecided test: their number is checked first, then each receipt.
 abbrev pub receipts_fault : BookView → Task → List Worker → List Receipt → List ℕ → Option Place
 receipts_fault book task workers xs firsts =
     unless (length xs == length workers && length firsts == length workers) Kind (each_fault book task workers xs firsts)
 
--- the fault of a refutation by this worker, if the scenario has it
+-- The first error of a refutation by this worker; the place is `Kind` if the scenario does not have the worker.
 abbrev pub refuted_fault : BookView → Task → Option Worker → Refutation → Option Place
 refuted_fault book task None how = Some Kind
 refuted_fault book task (Some worker) how = answer_fault book task worker (Refutes how)
 
--- the fault of a proof from outside, whose log's first line has this number
+-- The first error of a proof from outside, given the number of its log's first line.
 abbrev pub outside_log_fault : BookView → Task → List Line → ℕ → Option Place
 outside_log_fault book task lines first =
     let fault = outside_fault book task.set lines in
     if first == first_number (clauses_in book task.set) lines then fault else or_first_line fault
 
--- there is one number first
+-- The first error of a proof from outside: there must be exactly one line number, and then the log is checked.
 abbrev pub one_log_fault : BookView → Task → List Line → List ℕ → Option Place
 one_log_fault book task lines [] = Some Kind
 one_log_fault book task lines (first ∷ []) = outside_log_fault book task lines first
 one_log_fault book task lines (first ∷ second ∷ more) = Some Kind
 
--- the fault of what settles a query, by how it is shown
+-- The first error of what settles a query.
 abbrev pub query_fault : Scenario → BookView → Task → Shown → List ℕ → Option Place
 query_fault sc book task Empty firsts = Some Kind
 query_fault sc book task (Fits delta) firsts = unless (is_empty firsts) Kind (fit_fault book task delta)
@@ -102,7 +102,7 @@ query_fault sc book task (Refuted w how) firsts = unless (is_empty firsts) Kind 
 query_fault sc book task (Outside proof) firsts = one_log_fault book task proof.log.lines firsts
 query_fault sc book task (Undecided xs) firsts = receipts_fault book task sc.workers xs firsts
 
--- the test is shown by its station's want of a channel
+-- Whether the test is settled by its own station s having no channel.
 abbrev pub is_bare : ℕ → Shown → Bool
 is_bare s Empty = false
 is_bare s (Fits delta) = false
@@ -112,7 +112,7 @@ is_bare s (Refuted w how) = false
 is_bare s (Outside proof) = false
 is_bare s (Undecided xs) = false
 
--- the test is shown by that of the same station one round before
+-- Whether the test is settled by that of the same station one round before.
 abbrev pub is_like_before : Shown → Bool
 is_like_before Empty = false
 is_like_before (Fits delta) = false
@@ -122,7 +122,7 @@ is_like_before (Refuted w how) = false
 is_like_before (Outside proof) = false
 is_like_before (Undecided xs) = false
 
--- the test is shown as the rule settled it without a query
+-- Whether the transcript settles the test in the way in which the rule settled it without a query (`own`).
 abbrev pub is_unasked_so : Shown → Shown → Bool
 is_unasked_so Empty shown = false
 is_unasked_so (Fits delta) shown = false
@@ -132,11 +132,12 @@ is_unasked_so (Refuted w how) shown = false
 is_unasked_so (Outside proof) shown = false
 is_unasked_so (Undecided xs) shown = false
 
--- a step's fault where the rule settled its test so without a query
+-- The first error of a step whose test the rule settled without a query (`own`).
 abbrev pub unasked_fault : TranscriptStep → Shown → Option Place
 unasked_fault x own = unless (is_unasked_so own x.step.shown && is_empty x.firsts) Kind None
 
--- A step's fault in this state: where its test needs no query, it is shown as the rule settled it; else it settles a query.
+-- The first error of a step in this state: if its test needs no query, it must be settled as the rule settled it; otherwise it must
+-- settle its query.
 abbrev pub step_fault : Scenario → BookView → CoreState → TranscriptStep → Option Place
 step_fault sc book state x =
     option_map_or (unasked_fault x) (settled_unasked sc book state (test_of x.step))
@@ -144,43 +145,45 @@ step_fault sc book state x =
 
 -- ---- all steps
 
--- the tests from the first one on that is asked
+-- The tests from the first active one on.
 abbrev pub next_asked : ClockState → List ClockTest → List ClockTest
 next_asked clock [] = []
 next_asked clock (t ∷ ts) = if is_active clock t.station then t ∷ ts else next_asked clock ts
 
+-- The result that this step is not proved, for this reason.
 abbrev pub not_shown_at : ℕ → ShownWhy → Option NotShown
 not_shown_at step why = Some (record { step = step; why = why })
 
--- no test is left that is asked
+-- The result at the end of the steps: out of order if a test is left.
 abbrev pub fault_at_end : ℕ → List ClockTest → Option NotShown
 fault_at_end step [] = None
 fault_at_end step (t ∷ ts) = not_shown_at step WrongTest
 
--- a step's fault, else that of the rest
+-- The first error of a step or of the steps after it.
 abbrev pub step_fault_or : ℕ → Option Place → Option NotShown → Option NotShown
 step_fault_or step None rest = rest
 step_fault_or step (Some place) rest = not_shown_at step (NotValid place)
 
--- the step is of this test
+-- Whether the step is of this test.
 abbrev pub is_test : ClockTest → TranscriptStep → Bool
 is_test t x = t.round == x.step.round && t.station == x.step.station
 
--- the fault of a step where these tests are left, of which the first is asked; the rest of the steps says this of the tests
--- behind it
+-- The first error from this step on, given the tests that are left, the first of which is active. `rest` gives the first error of
+-- the steps after it, given the tests after it.
 abbrev pub at_test : Scenario → BookView → ℕ → CoreState → TranscriptStep → List ClockTest → (List ClockTest → Option NotShown) → Option NotShown
 at_test sc book step state x [] rest = not_shown_at step WrongTest
 at_test sc book step state x (t ∷ ts) rest =
     if is_test t x then step_fault_or step (step_fault sc book state x) (rest ts) else not_shown_at step WrongTest
 
--- the first fault of these steps, the first of which has this number, where the clock stands so with these tests left
+-- The first error of these steps, the first of which has this number, in this state with these tests left.
 unfoldable pub steps_fault : Scenario → BookView → ℕ → CoreState → List ClockTest → List TranscriptStep → Option NotShown
 steps_fault sc book step state ts [] = fault_at_end step (next_asked state.clock ts)
 steps_fault sc book step state ts (x ∷ xs) =
     at_test sc book step state x (next_asked state.clock ts)
     (λ rest. steps_fault sc book (step + 1) (settled sc state (test_of x.step) x.step.shown) rest xs)
 
--- the start's fault: it is empty exactly where the start set is; else it is a fit of a start set that needs a query
+-- The first error of the start: it is empty if and only if the start set is; otherwise it is a fit of a start set that needs a
+-- query.
 abbrev pub start_fault : Scenario → BookView → Shown → Option Place
 start_fault sc book Empty = unless (is_empty (start_set sc)) Kind None
 start_fault sc book (Fits delta) = unless (is_none (start_unasked sc book)) Kind (fit_fault book (start_task sc 1) delta)
@@ -190,39 +193,39 @@ start_fault sc book (Refuted w how) = Some Kind
 start_fault sc book (Outside proof) = Some Kind
 start_fault sc book (Undecided xs) = Some Kind
 
--- The first step of a transcript that is not shown, and why; none where the transcript is sound. The start is step 0.
+-- The first step of a transcript that is not proved, and why; `None` if the transcript is sound. The start is step 0.
 unfoldable pub not_shown : Scenario → BookView → Transcript → Option NotShown
 not_shown sc book t =
     step_fault_or 0 (start_fault sc book t.start) (steps_fault sc book 1 (after_start sc t.order t.start) (clock_tests sc t.order) t.steps)
 
 -- ---- the beginning of a transcript
 
--- the fault, if it is of the start or of one of this many steps
+-- The fault, if it is in the start or in one of this many steps.
 abbrev pub within_steps : ℕ → Option NotShown → Option NotShown
 within_steps steps None = None
 within_steps steps (Some fault) = if nat_le fault.step steps then Some fault else None
 
--- in which order a round tests: as the first line says, by volume where it is missing
+-- The test order of a round: as the first line says, or by volume if that line is missing.
 abbrev pub order_kept : Prefix → Order
 order_kept p = unwrap_or p.order ByVolume
 
--- what is kept as a transcript, whose start was shown so
+-- The beginning of a transcript as a transcript, given how its start was settled.
 abbrev pub kept_as : Prefix → Shown → Transcript
 kept_as p start = record { order = order_kept p; start = start; steps = p.steps }
 
--- where the start test stands there is no step, and no end
+-- The fault of a beginning without a start: there may be neither steps nor an end.
 abbrev pub unstarted_fault : Prefix → Option NotShown
 unstarted_fault p = if is_empty p.steps && not p.ended then None else not_shown_at 1 WrongTest
 
--- behind a start that was shown: that a step is missing behind those that are there is a fault only where they end there
+-- The fault of a beginning with a start. A missing step after the last one is a fault only if the end is there.
 abbrev pub started_fault : Scenario → BookView → Bool → Transcript → Option NotShown
 started_fault sc book ended t = if ended then not_shown sc book t else within_steps (length t.steps) (not_shown sc book t)
 
--- The first step of what is kept of a transcript that is not shown, and why; none where an auction goes on from it.
+-- The first step of a transcript's beginning that is not proved, and why; `None` if an auction can continue from it.
 unfoldable pub not_kept : Scenario → BookView → Prefix → Option NotShown
 not_kept sc book p = option_map_or (λ start. started_fault sc book p.ended (kept_as p start)) p.start (unstarted_fault p)
 
--- the error is what the definition finds, unless memory ran out
+-- Whether the error is what this definition finds, unless memory ran out.
 abbrev pub Explains : ResumeErr → Option NotShown → Type 0
 Explains (resume.NotShown step why) found = found ≡ Some (record { step = step; why = why })
 Explains resume.NoMemory found = Unit {0}

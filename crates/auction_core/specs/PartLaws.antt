@@ -1,5 +1,4 @@
--- Laws of the labels of the parts on air. They are proved in `src/part_laws`, in the same order, beside those that are short
--- enough to stand there.
+-- Laws of the component labels that are too long to state in `src/part_laws`, which proves all of them in this order.
 use Rattle.std.specs.Prelude.{◌≡◌, ◌++◌, ◌∷◌, ◌<◌, ◌≤◌, ◌↔◌, ◌+◌, not, length, ℕ, List, map, Contains, true, false}
 use Rattle.pack_defs.specs.Book.{BookView}
 use Rattle.pack_defs.specs.Components.{component, interferes}
@@ -13,23 +12,23 @@ use Rattle.auction_core.specs.declared.record.Shown.{Shown}
 use Rattle.auction_core.specs.Rule.{IsAuction}
 use Rattle.auction_core.specs.State.{CoreState, is_same, test_of, tested_set}
 
--- once a station goes on air, its number is the label of the parts that it touches, and the other labels stand
+-- The labels stay right when a station goes on air: its number becomes the label of the components that it touches.
 abbrev pub PartsGrow : Type 0
 PartsGrow =
     (book : BookView) (on all : List ℕ) (since more label : ℕ → ℕ) (s n : ℕ) → AreParts book on since label → IsWithOne on all s →
     ((z : ℕ) → Contains on z → more z ≡ since z) → more s ≡ n → ((z : ℕ) → Contains on z → label z < n) →
     AreParts book all more (relabelled book on label s n)
 
--- The stations that a test asks about, its own aside, were all on air before some time exactly where the labels that it
--- touches are before that time.
+-- The other stations that a test asks about were all on air before some time if and only if the labels that its station touches are
+-- before that time.
 abbrev pub PartsTellSinceWhen : Type 0
 PartsTellSinceWhen =
     (book : BookView) (on all : List ℕ) (since label : ℕ → ℕ) (s time : ℕ) → AreParts book on since label → IsWithOne on all s →
     ((z : ℕ) → is_in (component book all s) z ≡ true → (z ≡ s → ⊥) → since z < time) ↔
     ((v : ℕ) → Contains on v → interferes book s v ≡ true → label v < time)
 
--- Where whoever was on air then is on air now, a test asks about the same stations as the earlier one exactly where each but
--- its own station was on air then.
+-- If every station on air then is on air now, a test asks about the same stations as an earlier one if and only if each of them,
+-- apart from the tested one, was on air then.
 abbrev pub SameWhereAllWereOnAir : Type 0
 SameWhereAllWereOnAir =
     (sc : Scenario) (book : BookView) (then_ now_ : ClockState) (s : ℕ) → IsAuction sc book → Contains (facilities sc) s →
@@ -37,8 +36,8 @@ SameWhereAllWereOnAir =
     (same_list (tested_set sc book now_ s) (tested_set sc book then_ s) ≡ true) ↔
     ((z : ℕ) → is_in (tested_set sc book now_ s) z ≡ true → (z ≡ s → ⊥) → is_on_air then_ z ≡ true)
 
--- From round 2 on, the test of an active station asks about the same stations as its test one round before exactly where
--- the station touches no part that changed since.
+-- From round 2 on, the test of an active station asks about the same stations as its test one round before if and only if the
+-- station touches no component that changed since.
 abbrev pub SameWhereNoPartChanged : Type 0
 SameWhereNoPartChanged =
     (sc : Scenario) (book : BookView) (state : CoreState) (before after : List ClockTest) (t : ClockTest) (start : Shown) (parts : PartsView) →
@@ -49,7 +48,7 @@ SameWhereNoPartChanged =
     is_active state.clock t.station ≡ true → IsPartsOf sc book state.clock parts → 2 ≤ t.round →
     is_same sc book state t ≡ not (touches_since book parts t.station (last_seen sc (opening_state sc) state.steps t.station 0 + 1))
 
--- once a station goes on air, the labels in which it has joined the parts that it touches are those of the clock's state
+-- The labels follow the clock: after a station joins the components that it touches, they are the labels of the clock's new state.
 abbrev pub PartsGoWithTheClock : Type 0
 PartsGoWithTheClock =
     (sc : Scenario) (book : BookView) (clock : ClockState) (t : ClockTest) (parts more : PartsView) →

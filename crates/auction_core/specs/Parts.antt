@@ -1,6 +1,6 @@
--- The parts of the stations on air: those that reach one another by pairs of the book have one label. A part's label tells
--- when the station of it that went on air last did so, hence when the part last changed. That they are so kept is this
--- project's own; the components are those of the SATFC papers.
+-- The components of the stations on air, as labels: two stations have the same label if and only if they are connected by
+-- interfering pairs. A label also dates the last change of its component. The representation is this project's own; testing
+-- component by component is from SATFC (Newman, Fréchette, Leyton-Brown 2017).
 use Rattle.std.specs.Prelude.{◌≡◌, ◌≤◌, ◌↔◌, ◌⊎◌, ℕ, suc, Bool, true, false, not, nat_le, length, slice_index_or, slice_set, ◌&&◌, ◌||◌, ◌==◌, if◌then◌else◌, List, [], ◌∷◌, filter, Contains}
 use Rattle.std.specs.List.{list_any}
 use Rattle.pack_defs.specs.Book.{BookView}
@@ -11,22 +11,22 @@ use Rattle.pack_defs.specs.Scenario.{facilities}
 use Rattle.auction_core.specs.declared.record.Step.{Step}
 use Rattle.auction_core.specs.State.{shows_room, test_of}
 
--- With a number for each station on air that tells when it went on air: two stations on air have one label exactly where the
--- one reaches the other; a part's label is the number of a station of it; and no station of it has a greater one.
+-- Whether the labels are those of the components. `since` numbers the stations by when they went on air. Two stations have one
+-- label exactly if one reaches the other; a label is the greatest number in its component.
 pub record AreParts (book : BookView) (on : List ℕ) (since : ℕ → ℕ) (label : ℕ → ℕ) : Type 0 where
   pub same : (v w : ℕ) → Contains on v → Contains on w → (label v ≡ label w) ↔ Reaches book on v w
   pub own : (v : ℕ) → Contains on v → (w : ℕ) × Contains on w × (label w ≡ label v) × (since w ≡ label v)
   pub last : (v : ℕ) → Contains on v → since v ≤ label v
 
--- the station interferes with one on air of this label
+-- Whether station s interferes with a station on air that has label l.
 abbrev pub touches : BookView → List ℕ → (ℕ → ℕ) → ℕ → ℕ → Bool
 touches book on label s l = list_any (λ v. interferes book s v && (label v == l)) on
 
--- the labels once u goes on air, of which this is the number: it is the label of its part, which takes in those that u touches
+-- The labels once station u goes on air under number n: n is now the label of u and of each component that u touches.
 abbrev pub relabelled : BookView → List ℕ → (ℕ → ℕ) → ℕ → ℕ → ℕ → ℕ
 relabelled book on label u n z = if (z == u) || touches book on label u (label z) then n else label z
 
--- those on air, and one station that isn't
+-- Whether `all` has the stations on air and one further station s.
 pub record IsWithOne (on all : List ℕ) (s : ℕ) : Type 0 where
   pub each : (z : ℕ) → Contains on z → Contains all z
   pub one : Contains all s
@@ -35,73 +35,75 @@ pub record IsWithOne (on all : List ℕ) (s : ℕ) : Type 0 where
 
 -- ---- as the program keeps them
 
--- the stations of an auction, ascending, and the label of each; 0 off air
+-- The stations of an auction, ascending, and the label of each; 0 off air.
 pub record PartsView : Type 0 where
   pub stations : List ℕ
   pub labels : List ℕ
 
--- the number beside a station; 0 where the list hasn't it
+-- The label in the slot of station s; 0 if the list has no such station.
 abbrev pub label_in : List ℕ → List ℕ → ℕ → ℕ
 label_in [] labels s = 0
 label_in (f ∷ fs) [] s = 0
 label_in (f ∷ fs) (l ∷ ls) s = if f == s then l else label_in fs ls s
 
+-- The label of a station.
 abbrev pub label_of : PartsView → ℕ → ℕ
 label_of parts s = label_in parts.stations parts.labels s
 
--- the stations on air, those with a label
+-- The stations on air: those with a label other than 0.
 abbrev pub labelled : PartsView → List ℕ
 labelled parts = filter (λ v. not (label_of parts v == 0)) parts.stations
 
--- a number, or another one in the place of this
+-- The number x, with `new` in place of `old`.
 abbrev pub swapped : ℕ → ℕ → ℕ → ℕ
 swapped old new x = if x == old then new else x
 
--- the labels once the part of v, if it is on air, has the label n
+-- The labels once the component of v, if v is on air, has the label n.
 abbrev pub merged_label : (ℕ → ℕ) → ℕ → ℕ → ℕ → ℕ
 merged_label label v n z = if not (label v == 0) && (label v == label z) then n else label z
 
--- once the parts of each of these have
+-- The labels once the component of each of these stations has the label n.
 abbrev pub merged_labels : (ℕ → ℕ) → List ℕ → ℕ → ℕ → ℕ
 merged_labels label [] n = label
 merged_labels label (v ∷ vs) n = merged_labels (merged_label label v n) vs n
 
--- s interferes with a station on air whose part changed at this time or later
+-- Whether s interferes with a station on air whose component changed at this time or later.
 abbrev pub touches_since : BookView → PartsView → ℕ → ℕ → Bool
 touches_since book parts s time = list_any (λ v. interferes book s v && nat_le time (label_of parts v)) (labelled parts)
 
--- the station and the stations on air of the labels that it touches
+-- The station s and the stations on air whose labels s touches.
 abbrev pub touched_set : BookView → PartsView → ℕ → List ℕ
 touched_set book parts s =
     filter (λ z. (z == s) || (not (label_of parts z == 0) && touches book (labelled parts) (label_of parts) s (label_of parts z))) parts.stations
 
--- the marks once the label of each of these is marked
+-- The marks once the label of each of these stations is marked.
 abbrev pub marked : (ℕ → ℕ) → List ℕ → List Bool → List Bool
 marked label [] marks = marks
 marked label (v ∷ vs) marks = marked label vs (slice_set marks (label v) true)
 
--- a station of this label is s, or is on air and its label is marked
+-- Whether a test of s asks about z, whose label is `label`: z is s, or is on air and its label is marked.
 abbrev pub is_asked : ℕ → List Bool → ℕ → ℕ → Bool
 is_asked s marks z label = (z == s) || (not (label == 0) && slice_index_or marks label false)
 
--- ---- by the clock
+-- ---- in terms of the clock
 
--- the place of a station in the list of those on air, counted from k; 0 where it isn't there
+-- The place of a station in the list of those on air, counted from k; 0 if it is not there.
 abbrev pub number_from : ℕ → List OnAirSince → ℕ → ℕ
 number_from k [] s = 0
 number_from k (x ∷ xs) s = if x.station == s then k else number_from (suc k) xs s
 
--- how many were on air once the station had gone on air, itself among them
+-- The number of stations on air just after this station went on air; 0 if it is not on air.
 abbrev pub number_on_air : ClockState → ℕ → ℕ
 number_on_air clock s = number_from 1 clock.on_air s
 
--- how many were on air at the station's last test among these steps, from this state of the clock on; this where it has none
+-- The number of stations on air at the last test of s among these steps, which start from this state of the clock; n if s has no
+-- test there.
 abbrev pub last_seen : Scenario → ClockState → List Step → ℕ → ℕ → ℕ
 last_seen sc clock [] s n = n
 last_seen sc clock (x ∷ xs) s n =
     last_seen sc (after_answer sc clock (test_of x) (shows_room x.shown)) xs s (if x.station == s then length clock.on_air else n)
 
--- The labels are those of the stations on air in this state of the clock.
+-- Whether the labels are those of the components of the stations on air in this state of the clock.
 pub record IsPartsOf (sc : Scenario) (book : BookView) (clock : ClockState) (parts : PartsView) : Type 0 where
   pub stations : parts.stations ≡ facilities sc
   pub on_air : (z : ℕ) → Contains (facilities sc) z → not (label_of parts z == 0) ≡ is_on_air clock z

@@ -1,6 +1,5 @@
--- What the program keeps of the tests so far: the parts of the stations on air, how many of them there are, how many there
--- were at each station's last test, the steps, and where each station's last fit was told. That it is so kept is this
--- project's own.
+-- The test history, as the program keeps it: the components of the stations on air, the steps, and for each station how many
+-- stations were on air at its last test and where its last fit is. The representation is this project's own.
 use Rattle.std.specs.Prelude.{ℕ, ◌≡◌, ◌≤◌, ◌<◌, List, [], ◌∷◌, ◌++◌, length, slice_index, slice_set}
 use Rattle.pack_defs.specs.declared.limits.TheConstants.{MOST_STATIONS}
 use Rattle.auction_core.specs.Parts.{PartsView}
@@ -9,8 +8,8 @@ use Rattle.auction_core.specs.declared.record.Step.{Step}
 use Rattle.auction_core.specs.State.{last_fit}
 use Rattle.auction_core.specs.StepList.{fit_at}
 
--- the parts of the stations on air; how many stations are on air; how many were at the last test of the station at each
--- place; the steps so far; and for how many steps and verdicts more there is room
+-- The test history: the components of the stations on air and their number; for the station at each place, how many were on air at
+-- its last test; the steps so far; and room for further steps and verdicts.
 pub record PastView : Type 0 where
   pub parts : PartsView
   pub on_air : ℕ
@@ -19,7 +18,8 @@ pub record PastView : Type 0 where
   pub room : ℕ
   pub verdicts : ℕ
 
--- what is kept once the test of the station at this place is settled so, with room for so many steps and verdicts more
+-- The test history once the test of the station at this place is settled by this step, with room for this many further steps and
+-- verdicts.
 abbrev pub with_settled_step : PastView → ℕ → Step → ℕ → ℕ → PastView
 with_settled_step past place step room verdicts = record past {
   seen = slice_set past.seen place past.on_air;
@@ -28,13 +28,13 @@ with_settled_step past place step room verdicts = record past {
   verdicts = verdicts;
 }
 
--- There is a number for each station, and each is within the limit on stations, as that of those on air is.
+-- Whether `seen` has a number for each station, and each number and `on_air` are within the limit on stations.
 pub record AreSeen (stations : List ℕ) (on_air : ℕ) (seen : List ℕ) : Type 0 where
   pub long : length seen ≡ length stations
   pub few : on_air ≤ MOST_STATIONS
   pub each : (i : ℕ) → slice_index seen i ≤ MOST_STATIONS
 
--- Each station's last fit among the steps is the one that stands at its place among the verdicts.
+-- Whether `fits` has, for each station, the place among the verdicts of its last fit in the steps.
 pub record AreLastFits (stations : List ℕ) (steps : List Step) (told : List Shown) (fits : List ℕ) : Type 0 where
   pub long : length fits ≡ length stations
   pub stands : (i : ℕ) → i < length stations → slice_index fits i ≤ length told

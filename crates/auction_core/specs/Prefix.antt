@@ -1,4 +1,4 @@
--- An auction that goes on where the first steps of another stop. That it does is this project's own.
+-- An auction that continues where the first steps of another stop. Continuing is this project's own.
 use Rattle.std.specs.Prelude.{ℕ, Bool, true, false, ◌+◌, ◌≡◌, if◌then◌else◌, List, [], ◌∷◌, length, take, map, count_by, Option, Some, None}
 use Rattle.pack_defs.specs.Book.{BookView}
 use Rattle.pack_defs.specs.declared.order.Order.{Order}
@@ -11,16 +11,16 @@ use Rattle.auction_core.specs.State.{CoreState, test_of, shows_room, start_fits,
 use Rattle.auction_core.specs.Backed.{undecided_of, AreShown, after_start, shown_start}
 use Rattle.auction_core.specs.Rule.{IsStartKept}
 
--- What may be kept of an auction: how its start was shown, if it was, and its first steps. The start is shown as it has to be;
--- where the start set wasn't shown to fit there is no step; the steps are the first tests that the rule asks, with those of
--- them shown undecided left open; and each is shown as it has to be.
+-- Whether this may be the beginning of an auction. The start, if it was settled, and each step are properly settled. Without a
+-- start set that fits there is no step. The steps are the first tests that the rule asks, with the undecided ones counted as
+-- undecided.
 pub record IsPrefix (sc : Scenario) (book : BookView) (order : Order) (start : Option Shown) (steps : List Step) : Type 0 where
   pub start_is : IsStartKept sc book start
   pub idle : start_fits start ≡ false → steps ≡ []
   pub tests : map test_of steps ≡ take (length steps) (asked_tests sc book order (undecided_of steps))
   pub shown : AreShown sc book (after_start sc order (shown_start start)) steps
 
--- it took a query to show this
+-- Whether a test settled in this way took a query.
 abbrev pub took_query : Shown → Bool
 took_query Empty = false
 took_query (Fits delta) = true
@@ -30,12 +30,12 @@ took_query (Refuted worker how) = true
 took_query (Outside proof) = true
 took_query (Undecided receipts) = true
 
--- how many queries the start and the steps took
+-- The number of queries that the start and the steps took.
 abbrev pub queries_taken : Shown → List Step → ℕ
 queries_taken start steps = (if took_query start then 1 else 0) + count_by (λ x. took_query x.shown) steps
 
--- The state once these tests were gone through with these steps: a test is passed over where its station isn't active, and
--- settled as the next step shows; behind the last step the state goes on to the next query.
+-- The state after these tests with these steps: a test is skipped if its station is not active, and otherwise settled as the next
+-- step says. After the last step the state goes on to the next query.
 abbrev pub go_through : Scenario → BookView → List ClockTest → List Step → CoreState → CoreState
 go_through sc book ts [] state = go_on sc book ts state
 go_through sc book [] (x ∷ xs) state = record state { left = [] }
@@ -44,8 +44,8 @@ go_through sc book (t ∷ ts) (x ∷ xs) state =
     then go_through sc book ts xs (settled sc state t x.shown)
     else go_through sc book ts (x ∷ xs) state
 
--- The state that an auction goes on with after a start shown so, and these steps; its query has the next number. Where the
--- start wasn't shown, it is the opening.
+-- The state with which an auction continues after this start and these steps; its query has the next number. Without a start it is
+-- the opening state.
 unfoldable pub resumed : Scenario → BookView → Order → Option Shown → List Step → CoreState
 resumed sc book order None steps = opening sc book order
 resumed sc book order (Some start) steps =

@@ -1,4 +1,5 @@
-//! The channel map of the stations on air, kept so that it is overwritten in place.
+//! The channel map of the stations on air, with one slot for each station of the auction, so that updates happen in place. `course`
+//! owns it; `parts` reads the slots when it builds a query.
 
 ghost use Rattle.std.specs.Prelude.{◌≡◌, ◌<◌, ℕ, [], IfOk, IsTrue, List, MatchOption, false, get_or, length, map};
 ghost use Rattle.pack_defs.specs.ChannelMap.{IsAscending, channel_of, overlaid, put};
@@ -10,7 +11,7 @@ use pack_defs::station::Station;
 use std::alloc::{AllocError as NoMemory, Global};
 use std::marker::Model;
 
-/// A place for the channel of each station of an auction, ascending by station. A station on air has a channel there.
+/// A slot for the channel of each station of an auction, ascending by station. A station on air has a channel in its slot.
 #[derive(Debug, Drop)]
 pub struct AirMap {
     stations: Vec<u32>,
@@ -30,7 +31,11 @@ impl Model for AirMap {
 }
 
 impl AirMap {
-    /// A place for each of these stations, none of them on air. The only error is want of memory.
+    /// Returns a map with a slot for each of these stations, none of them on air.
+    ///
+    /// # Errors
+    ///
+    /// Fails only if memory runs out.
     pub fn none(alloc: Global, stations: &[Station]) -> Result<AirMap, NoMemory>
         requires { IsTrue (is_ascending (map (λ x. x.id) stations.now)) }
         ensures { IfOk result (λ m. m ≡ record { stations = map (λ x. x.id) stations.now; entries = [] }) }
@@ -41,15 +46,15 @@ impl AirMap {
         })
     }
 
-    /// The channel of a station, if it is on air. It searches by halves.
+    /// Returns the channel of a station if it is on air. Binary search.
     pub fn channel(&self, station: u32) -> Option<u8>
         ensures { result ≡ channel_of station self.now.entries }
     {
         channel_at(&self.stations, &self.channels, station)
     }
 
-    /// Overwrites the map by the entries of another: each station of `delta` is on air on its channel there, and every
-    /// other one keeps its own. It takes no memory, and a search by halves for each entry of `delta`.
+    /// Overwrites the map with the entries of `delta`: each station of `delta` is on air on its channel there, and every other
+    /// station keeps its own. Allocates nothing. Cost: a binary search for each entry of `delta`.
     pub fn overlay(&mut self, delta: &ChannelMap)
         requires { (s : ℕ) → IsTrue (has_station delta.now s) → IsTrue (is_in self.old.stations s) }
         ensures entries { self.new.entries ≡ overlaid self.old.entries delta.now }
@@ -60,7 +65,7 @@ impl AirMap {
         }
     }
 
-    // The station is on air on this channel.
+    // Puts the station on air on this channel.
     fn put(&mut self, station: u32, channel: u8)
         requires { IsTrue (is_in self.old.stations station) }
         ensures entries { self.new.entries ≡ put (station, channel) self.old.entries }
@@ -72,7 +77,7 @@ impl AirMap {
         self.channels[place] = Some(channel);
     }
 
-    /// A place for the channel of each station, ascending by station.
+    /// Returns the slot of each station, ascending by station.
     pub(crate) fn channels(&self) -> &[Option<u8>]
         ensures places { length result.now ≡ length self.now.stations }
         ensures entries { placed_entries self.now.stations result.now ≡ self.now.entries }
@@ -80,7 +85,11 @@ impl AirMap {
         &self.channels
     }
 
-    /// The whole map, by one pass over the places. The only error is want of memory.
+    /// Returns the complete map, built in one pass over the slots.
+    ///
+    /// # Errors
+    ///
+    /// Fails only if memory runs out.
     pub fn whole(&self, alloc: Global) -> Result<ChannelMap, NoMemory>
         ensures { IfOk result (λ m. m ≡ self.now.entries) }
     {
@@ -89,7 +98,7 @@ impl AirMap {
     }
 }
 
-// The stations' numbers.
+// Returns the facility numbers of the stations.
 pub(crate) fn ids(alloc: Global, stations: &[Station]) -> Result<Vec<u32>, NoMemory>
     ensures { IfOk result (λ ids. ids.items ≡ map (λ x. x.id) stations.now) }
 {
@@ -100,7 +109,7 @@ pub(crate) fn ids(alloc: Global, stations: &[Station]) -> Result<Vec<u32>, NoMem
     Ok(ids)
 }
 
-// So many places without a channel.
+// Returns this many empty slots.
 fn no_channels(alloc: Global, places: usize) -> Result<Vec<Option<u8>>, NoMemory>
     ensures { IfOk result (λ channels. (length channels.items ≡ places) × ((ss : List ℕ) → placed_entries ss channels.items ≡ [])) }
 {
@@ -111,7 +120,7 @@ fn no_channels(alloc: Global, places: usize) -> Result<Vec<Option<u8>>, NoMemory
     Ok(channels)
 }
 
-// The place of a number in a list that ascends, if it is there.
+// Returns the place of a number in an ascending list, if it is there. Binary search.
 pub(crate) fn place_of(stations: &[u32], station: u32) -> Option<usize>
     requires { IsTrue (is_ascending stations.now) }
     ensures { MatchOption result (is_in stations.now station ≡ false) (λ i. (i < length stations.now) × (get_or stations.now i 0 ≡ station)) }
@@ -119,7 +128,7 @@ pub(crate) fn place_of(stations: &[u32], station: u32) -> Option<usize>
     stations.binary_search(&station).ok()
 }
 
-// The channel at a station's place.
+// Returns the channel in a station's slot, if the station has a slot and it is not empty.
 fn channel_at(stations: &[u32], channels: &[Option<u8>], station: u32) -> Option<u8>
     requires ascending { IsTrue (is_ascending stations.now) }
     requires places { length channels.now ≡ length stations.now }
@@ -131,7 +140,7 @@ fn channel_at(stations: &[u32], channels: &[Option<u8>], station: u32) -> Option
     channels[place]
 }
 
-// The entries of those stations that have a channel at their place.
+// Returns the entries of the stations that have a channel in their slot.
 fn placed(
     alloc: Global,
     stations: &[u32],

@@ -1,4 +1,5 @@
-//! An auction: what each posting of a worker does, whoever posts it and when.
+//! An auction between two postings: what each posting of a worker does, whoever posts it and when. This is the interface that
+//! boards and races use; `clockwork` and `taking` do the work.
 
 ghost use Rattle.std.specs.Arc.{arc_value};
 ghost use Rattle.std.specs.Prelude.{◌≡◌, ◌≤◌, ◌+◌, ◌++◌, ◌∷◌, [], IfErr, IfOk, MatchOption, None, OnOk, Some, ⊤, length, option_and_then, option_map, true};
@@ -38,12 +39,12 @@ use std::marker::Model;
 use std::snapshot::Snapshot;
 use std::sync::Arc;
 
-/// An auction between two postings. It keeps what each posting was told since it was opened, and keeps the clock rule whatever
-/// is posted. The state in which it was opened stands in proofs alone and takes no memory.
+/// An auction between two postings. It keeps the reply to each posting since it was opened, and keeps the clock rule whatever is
+/// posted. The state in which it was opened exists in proofs only and takes no memory.
 ///
 /// # Example
 ///
-/// The first worker answers by `solve`, any function from a task to an answer; an answer at fault leaves the query standing:
+/// Here the first worker answers by `solve`, any function from a task to an answer. An invalid answer leaves the query open:
 ///
 /// ```
 /// let mut auction = Auction::start(alloc, &scenario, &book, Order::ByVolume)?;
@@ -88,8 +89,12 @@ impl Model for Auction {
 }
 
 impl Auction {
-    /// The auction of this scenario and book, whose rounds test in this order, at its first query or, where it needs none,
-    /// at its end. It keeps a copy of both. The only error is want of memory.
+    /// Returns the auction of this scenario and book, with this test order in each round. It is at its first query or, if it needs
+    /// none, at its end. Copies the scenario and the book.
+    ///
+    /// # Errors
+    ///
+    /// Fails only if memory runs out.
     pub fn start(
         alloc: Global,
         sc: &Scenario,
@@ -107,8 +112,11 @@ impl Auction {
         Auction::of(alloc, clockwork)
     }
 
-    /// The auction that goes on where the clock stands, at its standing query or at its end. Its history begins there. The only
-    /// error is want of memory.
+    /// Returns the auction that continues this query session, at its current query or at its end. The history begins empty.
+    ///
+    /// # Errors
+    ///
+    /// Fails only if memory runs out.
     pub(crate) fn of(alloc: Global, clockwork: Clockwork) -> Result<Auction, NoMemory>
         ensures scenario { IfOk result (λ auction. auction.scenario ≡ clockwork.scenario) }
         ensures book { IfOk result (λ auction. auction.book ≡ clockwork.book) }
@@ -120,7 +128,7 @@ impl Auction {
         Ok(Auction::unnoted(alloc, clockwork, notes))
     }
 
-    // The same, with a place for each worker's receipt, none of which is noted.
+    // Returns the auction that continues this query session, with these slots for the workers' receipts, all empty.
     fn unnoted(alloc: Global, clockwork: Clockwork, notes: Notes) -> Auction
         requires places { notes.workers ≡ length clockwork.scenario.workers }
         requires none { notes.noted ≡ [] }
@@ -130,7 +138,7 @@ impl Auction {
         ensures state { result.state ≡ clockwork.state }
         ensures history { result.history ≡ [] }
     {
-        // For its clauses alone: that no receipt is noted, and the rule that the state keeps.
+        // Proof only: no receipt is pending, and the state keeps the clock rule.
         clockwork.keeps_the_rule();
         let opened = Snapshot::of(&clockwork);
         Auction {
@@ -141,15 +149,16 @@ impl Auction {
         }
     }
 
-    /// The auction of this scenario and book that goes on where what is kept of a transcript ends: its start and each kept step
-    /// stand as they were shown, and its next query is the clock rule's next. Its rounds test in the order that the transcript's
-    /// first line names, by volume where that line is missing. It keeps a copy of the scenario and the book, and moves the
-    /// certificates; it costs what they cost to check, and what each query costs to put. No solver is asked.
+    /// Returns the auction of this scenario and book that continues after the beginning of a transcript. The start and the complete
+    /// steps stay as they were settled; the next query is the clock rule's next.
+    ///
+    /// The test order is that of the transcript's first line, by volume if that line is missing. Copies the scenario and the book,
+    /// and moves the certificates. Runs no solver. Cost: what the certificates cost to check, and what building each query costs.
     ///
     /// # Errors
     ///
-    /// The first kept step that is not the clock rule's next test, or whose certificate is not valid, and why; an end that comes
-    /// too soon, as a step out of order behind the last; or want of memory.
+    /// Fails with the first step that is not the clock rule's next test, or whose certificate is invalid, and the reason. An end
+    /// that comes too soon counts as a step out of order behind the last one. Fails also if memory runs out.
     pub fn resume(
         alloc: Global,
         sc: &Scenario,
@@ -166,14 +175,18 @@ impl Auction {
         ensures history { IfOk result (λ auction. auction.history ≡ []) }
         ensures why { IfErr result (λ e. Explains e (not_kept sc.now book.now prefix)) }
     {
-        // For its clause alone: that the book is in order, which the laws ask.
+        // Proof only: the book is in order, as the laws require.
         book.keeps_order();
         let clockwork = follow_kept(alloc, book, sc, prefix)?;
         Ok(Auction::of(alloc, clockwork)?)
     }
 
-    /// The live auction of this scenario: its owners say these lines, and their values stand for nothing. It starts as
-    /// `start` does with that scenario. The only error is want of memory.
+    /// Returns the live auction of this scenario: these answers of the owners decide, and the stations' values are ignored. Starts
+    /// as `start` does.
+    ///
+    /// # Errors
+    ///
+    /// Fails only if memory runs out.
     pub fn start_live(
         alloc: Global,
         sc: &Scenario,
@@ -192,21 +205,21 @@ impl Auction {
         Auction::start(alloc, &live, book, order)
     }
 
-    /// The book.
+    /// Returns the book.
     pub fn book(&self) -> &Book
         ensures { result.now ≡ self.now.book }
     {
         self.clockwork.book()
     }
 
-    /// The book, with one owner more. No copy is made of it. The only error is that it has too many owners.
+    /// Clones the shared book; no copy is made. Fails if the reference count would overflow.
     pub fn shared_book(&self) -> Result<Arc<Book>, NoMemory>
         ensures { IfOk result (λ book. arc_value book ≡ self.now.book) }
     {
         self.clockwork.shared_book()
     }
 
-    /// The workers of the scenario: one to sixteen.
+    /// Returns the workers of the scenario: one to sixteen.
     pub fn workers(&self) -> &[Worker]
         ensures workers { result.now ≡ self.now.scenario.workers }
         ensures some { 1 ≤ length result.now }
@@ -215,37 +228,38 @@ impl Auction {
         self.clockwork.workers()
     }
 
-    /// The number of the standing query, from 1; once the auction has ended, one past the last.
+    /// Returns the number of the current query, from 1; once the auction has ended, one more than the last.
     pub fn number(&self) -> u64
         ensures { result ≡ self.now.state.number }
     {
         self.clockwork.number()
     }
 
-    /// Whether the auction has ended: no query is left.
+    /// Returns whether the auction has ended: no query is left.
     pub fn ended(&self) -> bool
         ensures { result ≡ has_ended self.now.state }
     {
         self.clockwork.has_ended()
     }
 
-    /// Whether this worker's receipt for the standing query is noted; never of a worker that the scenario hasn't.
+    /// Returns whether this worker's receipt for the current query is pending; `false` for a worker that the scenario does not
+    /// have.
     pub fn noted(&self, worker: u32) -> bool
         ensures { result ≡ is_noted self.now.state.noted worker }
     {
         self.notes.has(worker)
     }
 
-    /// How many postings there were since the auction was opened.
+    /// Returns how many postings there were since the auction was opened.
     pub fn posted(&self) -> u64
         ensures count { result ≡ length self.now.history }
     {
         self.history.len() as u64
     }
 
-    /// Does nothing, and answers nothing: it says of each auction what callers need for their proofs alone. From the state in
-    /// which it was opened, what each posting was told replays to the state, which keeps the clock rule. It has the order of
-    /// that state, begins with its steps, and none of the others is shown by a proof from outside.
+    /// Does nothing at run time. Its clauses are for proofs: the history replays from the opened state to the current state, which
+    /// keeps the clock rule. The current state has the order of the opened one and begins with its steps. None of the later steps
+    /// is settled by a proof from outside.
     pub fn keeps_the_rule(&self)
         ensures replays { replay_from self.now.scenario self.now.book self.now.history self.now.opened ≡ Some self.now.state }
         ensures rule { KeepsTheRule self.now.scenario self.now.book self.now.state }
@@ -255,8 +269,12 @@ impl Auction {
         let _history = &self.history;
     }
 
-    /// The standing query; none where the auction has ended. It costs the tested station's pairs and a pass over the
-    /// stations. The only error is want of memory. A solver may be asked it, and an answer to it may be checked.
+    /// Returns the current query, or `None` if the auction has ended. Solvers may be run on it, and answers to it may be checked.
+    /// Cost: a binary search for each neighbour of the tested station and a pass over all stations.
+    ///
+    /// # Errors
+    ///
+    /// Fails only if memory runs out.
     pub fn task(&self, alloc: Global) -> Result<Option<Task>, NoMemory>
         ensures task { IfOk result (λ task. task ≡ task_of self.now.scenario self.now.book self.now.state) }
         ensures checked { IfOk result (λ task. MatchOption task ⊤ (IsTaskOf self.now.book)) }
@@ -265,8 +283,11 @@ impl Auction {
         self.clockwork.task(alloc)
     }
 
-    /// Makes room for all that one posting can add. The only error is want of memory. Whatever it answers, there is no less
-    /// room than before, and nothing else is changed.
+    /// Reserves room for all that one posting can add. Success or failure, no room is lost and nothing else changes.
+    ///
+    /// # Errors
+    ///
+    /// Fails only if memory runs out.
     pub fn reserve(&mut self) -> Result<(), NoMemory>
         ensures spare { OnOk result (1 ≤ self.new.spare) }
         ensures kept { self.old.spare ≤ self.new.spare }
@@ -281,12 +302,15 @@ impl Auction {
         self.clockwork.reserve()
     }
 
-    /// Does what the posting does, and answers what it is told: it is turned away, or its answer settles the query, is
-    /// noted or changes nothing. An answer that was let through has to be valid for the standing query and its worker,
-    /// unless the posting is turned away. If what it says is true of an answer, it does what posting that answer itself would
-    /// do. The history keeps what it was told, and the state keeps the clock rule. It takes no memory, and costs what the
-    /// stations passed up to the next query cost, and for a station that goes on air a pass over the stations for each part
-    /// that it joins.
+    /// Applies a posting and returns the reply. The posting is turned away, or its answer settles the query, becomes a pending
+    /// receipt, or changes nothing.
+    ///
+    /// Unless the posting is turned away, an answer that was accepted (`Said::Good`) must be valid for the current query and
+    /// its worker. If the posting's verdict is true of an answer, `take` does what posting that answer itself would do. The history
+    /// keeps the reply, and the state keeps the clock rule.
+    ///
+    /// Allocates nothing. Cost: that of the stations skipped up to the next query; and if a station goes on air, a pass over all
+    /// stations for each component that it joins.
     pub fn take(&mut self, posting: Posting) -> Reply
         requires spare { 1 ≤ self.old.spare }
         requires said { MayBeTaken self.old.scenario self.old.book self.old.state posting }
@@ -314,7 +338,11 @@ impl Auction {
         reply
     }
 
-    /// The record of the auction, which has ended. The only error is want of memory.
+    /// Returns the record of the auction, which must have ended.
+    ///
+    /// # Errors
+    ///
+    /// Fails only if memory runs out.
     pub fn into_result(self, alloc: Global, scenario: Scenario) -> Result<Record, NoMemory>
         requires ended { has_ended self.state ≡ true }
         requires scenario { scenario ≡ self.scenario }
@@ -325,7 +353,7 @@ impl Auction {
     }
 }
 
-// The answer that was let through, as contracts see it.
+// Returns the accepted answer, as contracts see it.
 fn let_through(said: &Said) -> Option<Snapshot<Answer>>
     ensures { option_map (λ s. s.value) result ≡ let_through said.now }
 {
@@ -335,7 +363,7 @@ fn let_through(said: &Said) -> Option<Snapshot<Answer>>
     }
 }
 
-// The answer, where the reply says that it was taken.
+// Returns the answer if the reply says that it took effect.
 fn if_taken(reply: Reply, answer: Option<Snapshot<Answer>>) -> Option<Snapshot<Answer>>
     ensures { option_map (λ s. s.value) result ≡ option_and_then (kept_answer reply) (option_map (λ s. s.value) answer) }
 {

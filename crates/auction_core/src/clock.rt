@@ -1,4 +1,5 @@
-//! Where each station stands while the clock runs, and what the frozen ones are paid.
+//! The clock: the standing of each station while the auction runs, and what the frozen stations are paid. `course` calls
+//! `Clock::settle` for each settled test; `start` calls `declines_opening`.
 
 ghost use Rattle.std.specs.Prelude.{◌≡◌, ◌<◌, ◌≤◌, ◌*◌, [], IfOk, None, length, slice_index, slice_index_or, slice_set};
 ghost use Rattle.pack_defs.specs.Scenario.{IsWithinLimits, facilities};
@@ -15,19 +16,19 @@ use pack_defs::station::Station;
 use std::alloc::{AllocError as NoMemory, Global};
 use std::marker::Model;
 
-/// Where a station stands.
+/// The standing of a station.
 #[derive(Clone, Copy, Debug, PartialEq, Eq)]
 pub enum Standing {
-    /// It is still asked.
+    /// The clock still makes offers to it.
     Active,
-    /// It has been on air since this round; 0 is the start.
+    /// On air since this round; 0 is the start.
     OnAir { round: u32 },
-    /// It was frozen in this round. The clock's ledger says what it is paid.
+    /// Frozen in this round. The clock's ledger has its payment.
     Frozen { round: u32 },
 }
 
 impl Standing {
-    /// Whether the station is on air.
+    /// Returns whether the station is on air.
     pub fn is_on_air(&self) -> bool
         ensures { result ≡ stands_on_air self.now }
     {
@@ -38,8 +39,8 @@ impl Standing {
     }
 }
 
-/// Where each station of a scenario stands, in the scenario's order, and what the frozen ones are paid. It has room for
-/// the price of every station that is still asked.
+/// The standing of each station, in the scenario's order, and what the frozen ones are paid. The ledger has room for the price of
+/// every active station.
 #[derive(Debug, Drop)]
 pub struct Clock {
     standings: Vec<Standing>,
@@ -56,8 +57,8 @@ impl Model for Clock {
     ghost invariant = { λ c. HasRoomToPay c.standings.items c.ledger };
 }
 
-// Whether the station declines this offer, in cents, in this round: it has no value, or one above it; or, where the owners
-// say round by round what they do, no line says that it stays.
+// Whether the station declines this offer, in cents, in this round. With values: its value is above the offer, or it has none. With
+// owners' answers round by round: no line says that it stays.
 fn declines(sc: &Scenario, station: &Station, round: u32, offer: u64) -> bool
     ensures { result ≡ declines_offer sc.now round offer station.now }
 {
@@ -70,7 +71,7 @@ fn declines(sc: &Scenario, station: &Station, round: u32, offer: u64) -> bool
     }
 }
 
-/// Whether the station declines the opening offer.
+/// Returns whether the station declines the opening offer.
 pub fn declines_opening(sc: &Scenario, station: &Station) -> bool
     ensures { result ≡ declines_offer sc.now 0 (sc.now.opening * station.now.volume) station.now }
 {
@@ -78,7 +79,7 @@ pub fn declines_opening(sc: &Scenario, station: &Station) -> bool
     declines(sc, station, 0, offer)
 }
 
-// Where a station stands once the clock opens.
+// The standing of a station once the clock opens.
 fn opening(sc: &Scenario, station: &Station) -> Standing
     ensures { result ≡ opening_standing sc.now station.now }
 {
@@ -88,7 +89,7 @@ fn opening(sc: &Scenario, station: &Station) -> Standing
     Standing::Active
 }
 
-// Whether the station at this place, where its test of this round fits, goes on air.
+// Whether the station at this place goes on air if its test of this round fits.
 fn exits(sc: &Scenario, schedule: &[u32], i: usize, round: u32) -> bool
     requires limits { IsWithinLimits sc.now }
     requires schedule { schedule.now ≡ prices sc.now }
@@ -104,8 +105,12 @@ fn exits(sc: &Scenario, schedule: &[u32], i: usize, round: u32) -> bool
 }
 
 impl Clock {
-    /// The clock before its first round: a station that declines the opening offer is on air since round 0, and every
-    /// other one is active. It makes room for the price of every station. The only error is want of memory.
+    /// Returns the clock before its first round. A station that declines the opening offer is on air since round 0; every other one
+    /// is active. Reserves room for the price of every station.
+    ///
+    /// # Errors
+    ///
+    /// Fails only if memory runs out.
     pub fn open(alloc: Global, sc: &Scenario) -> Result<Clock, NoMemory>
         requires { IsWithinLimits sc.now }
         ensures { IfOk result (λ clock. IsClockOf sc.now (opening_state sc.now) clock) }
@@ -119,28 +124,28 @@ impl Clock {
         Ok(Clock { standings, ledger })
     }
 
-    /// Where each station stands, in the scenario's order.
+    /// Returns the standing of each station, in the scenario's order.
     pub fn standings(&self) -> &[Standing]
         ensures { result.now ≡ self.now.standings }
     {
         &self.standings
     }
 
-    /// What a station, by its facility number, is paid, in cents; none where it is not frozen. It searches by halves.
+    /// Returns what a station, by its facility number, is paid, in cents; `None` if it is not frozen. Binary search.
     pub fn paid(&self, station: u32) -> Option<u64>
         ensures { result ≡ price_of station self.now.paid }
     {
         self.ledger.paid(station)
     }
 
-    /// What the frozen stations are paid together, in cents. It takes constant time.
+    /// Returns what the frozen stations are paid together, in cents. Constant time.
     pub fn total(&self) -> u64
         ensures { result ≡ sum_paid self.now.paid }
     {
         self.ledger.total()
     }
 
-    /// Whether the station at this place is still asked.
+    /// Returns whether the station at this place is active.
     pub fn is_active(&self, i: usize) -> bool
         requires { i < length self.now.standings }
         ensures { result ≡ stands_active (slice_index_or self.now.standings i Standing.Active) }
@@ -151,7 +156,7 @@ impl Clock {
         }
     }
 
-    // The active station at this place goes on air in this round.
+    // Puts the active station at this place on air in this round.
     fn air(&mut self, i: usize, round: u32)
         requires place { i < length self.old.standings }
         requires active { slice_index_or self.old.standings i Standing.Active ≡ Standing.Active }
@@ -160,7 +165,7 @@ impl Clock {
         self.standings[i] = Standing::OnAir { round };
     }
 
-    // The active station at this place, of this facility number, is frozen in this round, at this price, in cents.
+    // Freezes the active station at this place, with this facility number, in this round at this price, in cents.
     fn freeze(&mut self, i: usize, station: u32, round: u32, price: u64)
         requires place { i < length self.old.standings }
         requires active { slice_index_or self.old.standings i Standing.Active ≡ Standing.Active }
@@ -173,9 +178,10 @@ impl Clock {
         self.ledger.freeze(station, price);
     }
 
-    /// The active station at this place, once its test of this round is answered: one that fits goes on air in the last
-    /// round, or where it declines the round's offer; one that doesn't is frozen at the offer of one round before. It takes no
-    /// memory.
+    /// Moves the active station at this place once its test of this round is answered. Allocates nothing.
+    ///
+    /// A station that fits goes on air if it declines the round's offer or if this is the last round; otherwise it stays active. A
+    /// station that doesn't fit is frozen at its offer of the round before.
     pub fn settle(&mut self, sc: &Scenario, schedule: &[u32], i: usize, round: u32, fits: bool)
         requires limits { IsWithinLimits sc.now }
         requires schedule { schedule.now ≡ prices sc.now }
@@ -200,7 +206,7 @@ impl Clock {
     }
 }
 
-// An empty ledger with room for so many stations.
+// Returns an empty ledger with room for this many prices.
 fn room_to_pay(alloc: Global, stations: usize) -> Result<Ledger, NoMemory>
     requires { stations ≤ MOST_STATIONS }
     ensures paid { IfOk result (λ ledger. ledger.paid ≡ []) }

@@ -1,4 +1,5 @@
-//! An auction between two queries, whoever answers them.
+//! A query session: an auction between two queries, whoever answers them. `auction` drives one from postings, `follow` from a
+//! transcript.
 
 ghost use Rattle.std.specs.Arc.{arc_value};
 ghost use Rattle.std.specs.Prelude.{◌≡◌, ◌≢◌, [], None, Some, IfOk, MatchOption, OnOk, ⊤, false, true};
@@ -26,7 +27,7 @@ use std::alloc::{AllocError as NoMemory, Global};
 use std::marker::Model;
 use std::sync::Arc;
 
-/// An auction between two queries. It keeps the clock rule, whatever settles its queries.
+/// An auction between two queries. It keeps the clock rule whatever settles its queries.
 #[derive(Debug, Drop)]
 pub struct Clockwork {
     setup: Setup,
@@ -51,8 +52,12 @@ impl Model for Clockwork {
 }
 
 impl Clockwork {
-    /// The auction of this scenario and book, whose rounds test in this order, at its first query or, where it needs none,
-    /// at its end. It keeps a copy of both. The only error is want of memory.
+    /// Returns the auction of this scenario and book, with this test order in each round. It is at its first query or, if it needs
+    /// none, at its end. Copies the scenario and the book.
+    ///
+    /// # Errors
+    ///
+    /// Fails only if memory runs out.
     pub fn open(
         alloc: Global,
         sc: &Scenario,
@@ -73,8 +78,8 @@ impl Clockwork {
         })
     }
 
-    /// What may be relied on: the scenario and the book are an auction's, and the book is in order; the state keeps the clock
-    /// rule, and no receipt is noted in it.
+    /// Does nothing at run time. Its clauses are for proofs. The scenario and the book are those of an auction, and the book is in
+    /// order. The state keeps the clock rule, and no receipt is pending in the state.
     pub fn keeps_the_rule(&self)
         ensures auction { IsOfAuction self.now.scenario self.now.book }
         ensures in_order { IsInOrder self.now.book }
@@ -84,49 +89,49 @@ impl Clockwork {
         let _number = self.number;
     }
 
-    /// The book.
+    /// Returns the book.
     pub fn book(&self) -> &Book
         ensures { result.now ≡ self.now.book }
     {
         self.setup.book()
     }
 
-    /// The book, with one owner more. No copy is made of it. The only error is that it has too many owners.
+    /// Clones the shared book; no copy is made. Fails if the reference count would overflow.
     pub fn shared_book(&self) -> Result<Arc<Book>, NoMemory>
         ensures { IfOk result (λ book. arc_value book ≡ self.now.book) }
     {
         self.setup.shared_book()
     }
 
-    /// The workers of the scenario.
+    /// Returns the workers of the scenario.
     pub fn workers(&self) -> &[Worker]
         ensures { result.now ≡ self.now.scenario.workers }
     {
         self.setup.scenario().workers.as_slice()
     }
 
-    /// How the start test was settled, if it was.
+    /// Returns how the start test was settled, if it was.
     pub fn start(&self) -> &Option<Shown>
         ensures { result.now ≡ self.now.state.start }
     {
         self.course.start()
     }
 
-    /// The steps so far, those that needed no query among them.
+    /// Returns the steps so far, including those that needed no query.
     pub fn steps(&self) -> &StepList
         ensures { result.now.steps ≡ self.now.state.steps }
     {
         self.course.past().steps()
     }
 
-    /// The number of the standing query, from 1; once the auction has ended, one past the last.
+    /// Returns the number of the current query, from 1; once the auction has ended, one more than the last.
     pub fn number(&self) -> u64
         ensures { result ≡ self.now.state.number }
     {
         self.number
     }
 
-    /// Whether the auction has ended: no query is left.
+    /// Returns whether the auction has ended: no query is left.
     pub fn has_ended(&self) -> bool
         ensures { result ≡ has_ended self.now.state }
     {
@@ -136,9 +141,12 @@ impl Clockwork {
         }
     }
 
-    /// The standing query; none where the auction has ended. It costs a search by halves for each station near the tested
-    /// one and a pass over the stations. The only error is want of memory. A solver may be asked it, and an answer to it
-    /// may be checked.
+    /// Returns the current query, or `None` if the auction has ended. Solvers may be run on it, and answers to it may be checked.
+    /// Cost: a binary search for each neighbour of the tested station and a pass over all stations.
+    ///
+    /// # Errors
+    ///
+    /// Fails only if memory runs out.
     pub fn task(&self, alloc: Global) -> Result<Option<Task>, NoMemory>
         ensures task { IfOk result (λ task. task ≡ task_of self.now.scenario self.now.book self.now.state) }
         ensures query { IfOk result (λ task. MatchOption task ⊤ (IsQuery self.now.book)) }
@@ -152,7 +160,7 @@ impl Clockwork {
         Ok(Some(self.test_task(alloc)?))
     }
 
-    // The query of the start test.
+    // Returns the query of the start test.
     fn start_task(&self, alloc: Global) -> Result<Task, NoMemory>
         ensures { IfOk result (λ task. task ≡ start_task self.now.scenario self.now.state.number) }
     {
@@ -165,7 +173,7 @@ impl Clockwork {
         })
     }
 
-    // The query of the next test, once the start set was shown to fit.
+    // Returns the query of the next test. The start set must have been shown to fit.
     fn test_task(&self, alloc: Global) -> Result<Task, NoMemory>
         requires started { self.now.state.start ≢ None }
         requires standing { has_ended self.now.state ≡ false }
@@ -189,8 +197,12 @@ impl Clockwork {
         })
     }
 
-    /// Makes room for all the steps that settling one query can add: its own, and those that need no query behind it. The
-    /// only error is want of memory. Whatever it answers, room that there was is there still, and nothing else is changed.
+    /// Reserves room for all steps that settling one query can add: its own, and the steps after it that need no query. Success or failure,
+    /// no room is lost and nothing else changes.
+    ///
+    /// # Errors
+    ///
+    /// Fails only if memory runs out.
     pub fn reserve(&mut self) -> Result<(), NoMemory>
         ensures ready { OnOk result (self.new.ready ≡ true) }
         ensures kept { self.old.ready ≡ true → self.new.ready ≡ true }
@@ -201,7 +213,7 @@ impl Clockwork {
         self.course.reserve(&self.setup)
     }
 
-    /// The standing query is settled so, and the auction goes on to its next query or its end. It takes no memory.
+    /// Settles the current query, and goes on to the next query or to the end. Allocates nothing.
     pub fn settle(&mut self, shown: Shown)
         requires ready { self.old.ready ≡ true }
         requires standing { has_ended self.old.state ≡ false }
@@ -219,7 +231,11 @@ impl Clockwork {
         self.course.go_on(&self.setup);
     }
 
-    /// The record of the auction, which has ended. The only error is want of memory.
+    /// Returns the record of the auction, which must have ended.
+    ///
+    /// # Errors
+    ///
+    /// Fails only if memory runs out.
     pub fn into_record(self, alloc: Global, scenario: Scenario) -> Result<Record, NoMemory>
         requires ended { has_ended self.state ≡ true }
         requires scenario { scenario ≡ self.scenario }
@@ -231,7 +247,7 @@ impl Clockwork {
     }
 }
 
-// The course at its first query or, where it needs none, at its end.
+// Returns the clock at its first query or, if it needs none, at its end.
 fn first_course(alloc: Global, setup: &Setup) -> Result<Course, NoMemory>
     ensures holds { IfOk result (IsCourse setup.now) }
     ensures rest { IfOk result (λ c. start_fits c.start ≡ true → IsAtRest setup.now c) }

@@ -1,4 +1,8 @@
-//! Where the clock stands between two tests, and how a settled test moves it.
+//! A clock run: the clock between two tests, and how a settled test moves it. `clockwork` drives it: it calls `begin` for the start
+//! test, then `settle` and `go_on` for each query.
+//!
+//! The clock rule is a descending clock auction (Milgrom and Segal 2020). Two kinds of test need no query: the station has no
+//! channel, or the test asks about the same stations as the one before.
 
 ghost use Rattle.std.specs.Prelude.{◌≡◌, ◌≢◌, ◌<◌, ◌≤◌, ◌+◌, ℕ, [], None, IfOk, OnOk, false, true, length, slice_index};
 ghost use Rattle.pack_defs.specs.Lists.{has_station, is_empty, is_in};
@@ -24,14 +28,14 @@ use pack_defs::scenario::Scenario;
 use std::alloc::{AllocError as NoMemory, Global};
 use std::marker::Model;
 
-/// Where the clock of an auction stands between two tests.
+/// The clock between two tests.
 #[derive(Debug, Drop)]
 pub struct Course {
     start: Option<Shown>,
     clock: Clock,
     map: AirMap,
     past: Past,
-    // The next test: its round, and where its station comes in the round.
+    // The next test: its round, and the turn of its station in the round, from 0.
     round: u32,
     turn: usize,
 }
@@ -52,7 +56,11 @@ impl Model for Course {
 }
 
 impl Course {
-    /// The course before the start test, with room for a step of each test. The only error is want of memory.
+    /// Returns the clock before the start test, with room for a step of each test.
+    ///
+    /// # Errors
+    ///
+    /// Fails only if memory runs out.
     pub fn open(alloc: Global, setup: &Setup) -> Result<Course, NoMemory>
         ensures holds { IfOk result (IsCourse setup.now) }
         ensures opening { IfOk result (λ c. core_state setup.now c 1 ≡ before_start setup.now.scenario setup.now.order) }
@@ -63,7 +71,7 @@ impl Course {
         Ok(course)
     }
 
-    // The course before the start test, before room is made for its steps.
+    // Returns the clock before the start test, without room for steps.
     fn before_start(alloc: Global, setup: &Setup) -> Result<Course, NoMemory>
         ensures holds { IfOk result (IsCourse setup.now) }
         ensures opening { IfOk result (λ c. core_state setup.now c 1 ≡ before_start setup.now.scenario setup.now.order) }
@@ -82,35 +90,35 @@ impl Course {
         })
     }
 
-    /// How the start test was settled, if it was.
+    /// Returns how the start test was settled, if it was.
     pub fn start(&self) -> &Option<Shown>
         ensures { result.now ≡ self.now.start }
     {
         &self.start
     }
 
-    /// What is kept of the tests so far.
+    /// Returns the test history.
     pub fn past(&self) -> &Past
         ensures { result.now ≡ self.now.past }
     {
         &self.past
     }
 
-    /// The channel map of the stations on air.
+    /// Returns the channel map of the stations on air.
     pub fn map(&self) -> &AirMap
         ensures { result.now ≡ self.now.map }
     {
         &self.map
     }
 
-    /// The round of the next test.
+    /// Returns the round of the next test.
     pub fn round(&self) -> u32
         ensures { result ≡ self.now.round }
     {
         self.round
     }
 
-    /// The station of the next test, which is due.
+    /// Returns the station of the next test. The next test must be due.
     pub fn station(&self, setup: &Setup) -> u32
         requires { IsDue setup.now self.now }
         ensures { result ≡ (next_test setup.now self.now).station }
@@ -119,8 +127,12 @@ impl Course {
         setup.scenario().stations.as_slice()[place].id
     }
 
-    /// Makes room for a step of every test that is left, and for the verdict of one. The only error is want of memory.
-    /// Whatever it answers, there is no less room than before, and nothing else is changed.
+    /// Reserves room for a step of every test that is left, and for one verdict. Success or failure, no room
+    /// is lost and nothing else changes.
+    ///
+    /// # Errors
+    ///
+    /// Fails only if memory runs out.
     pub fn reserve(&mut self, setup: &Setup) -> Result<(), NoMemory>
         requires round { self.old.round ≤ last_round setup.now.scenario }
         requires turn { self.old.turn ≤ length setup.now.scenario.stations }
@@ -135,7 +147,7 @@ impl Course {
             .reserve(rounds * (turns + 1) + (turns - self.turn))
     }
 
-    /// The start test is settled so, and the clock goes on to its first query where it runs. It takes no memory.
+    /// Settles the start test. If the start set fits, the clock goes on to its first query. Allocates nothing.
     pub fn begin(&mut self, setup: &Setup, shown: Shown)
         requires holds { IsCourse setup.now self.old }
         requires fresh { self.old.start ≡ None }
@@ -151,7 +163,7 @@ impl Course {
         }
     }
 
-    // The start test is settled so: where it fits, the map takes its channels.
+    // Records how the start test was settled. If it fits, the map takes its channels.
     fn show_start(&mut self, shown: Shown)
         requires { (f : ℕ) → has_station (start_delta shown) f ≡ true → is_in self.old.map.stations f ≡ true }
         ensures { self.new ≡ with_start_shown self.old shown }
@@ -162,7 +174,7 @@ impl Course {
         self.start = Some(shown);
     }
 
-    /// Whether the clock runs: the start set was shown to fit.
+    /// Returns whether the clock runs: the start set was shown to fit.
     pub fn is_running(&self) -> bool
         ensures { result ≡ start_fits self.now.start }
     {
@@ -172,7 +184,7 @@ impl Course {
         }
     }
 
-    /// Whether no test is left. The clock is at rest or has never run.
+    /// Returns whether no test is left. The clock must be at rest or must never have run.
     pub fn is_over(&self, setup: &Setup) -> bool
         requires holds { IsCourse setup.now self.now }
         requires rest { start_fits self.now.start ≡ true → IsAtRest setup.now self.now }
@@ -181,7 +193,11 @@ impl Course {
         !self.is_running() || self.turn == setup.turns()
     }
 
-    /// The record of a course that has ended, whose start was settled. The only error is want of memory.
+    /// Returns the record of a clock run whose start test was settled.
+    ///
+    /// # Errors
+    ///
+    /// Fails only if memory runs out.
     pub fn into_record(
         self,
         alloc: Global,
@@ -208,7 +224,7 @@ impl Course {
         })
     }
 
-    // How the start test was settled, if it was, and the steps in one list. The only error is want of memory.
+    // Returns how the start test was settled, if it was, and the steps in one list.
     fn into_shown(self, alloc: Global) -> Result<(Option<Shown>, Items<Step>), NoMemory>
         ensures start { IfOk result (λ shown. shown.0 ≡ self.start) }
         ensures steps { IfOk result (λ shown. shown.1 ≡ self.past.steps) }
@@ -218,8 +234,10 @@ impl Course {
         Ok((start, steps))
     }
 
-    /// The next test, which is due, is settled so. The clock moves, the step is kept, the map takes the channels of the
-    /// station's last fit where it goes on air, and the next test is the one behind. It takes no memory.
+    /// Settles the next test, which must be due. Allocates nothing.
+    ///
+    /// The clock moves and the step is recorded. If the station goes on air, the map takes the channels of its last fit. The next
+    /// test is then the turn after this one.
     pub fn settle(&mut self, setup: &Setup, shown: Shown)
         requires holds { IsCourse setup.now self.old }
         requires running { start_fits self.old.start ≡ true }
@@ -253,8 +271,8 @@ impl Course {
         self.turn += 1;
     }
 
-    // How the next test, which is due, is settled without a query, if it is: its station has no channel, or it asks about
-    // the same stations as the test of its station one round before.
+    // Returns how the next test, which must be due, is settled without a query, if it is. Either its station has no channel, or it
+    // asks about the same stations as the test of its station one round before.
     fn unasked(&self, setup: &Setup) -> Option<Shown>
         requires holds { IsCourse setup.now self.now }
         requires running { start_fits self.now.start ≡ true }
@@ -271,14 +289,14 @@ impl Course {
         None
     }
 
-    // Whether the next test, which is due, asks about the same stations as the test of its station one round before.
+    // Whether the next test, which must be due, asks about the same stations as the test of its station one round before.
     fn is_same(&self, setup: &Setup) -> bool
         requires holds { IsCourse setup.now self.now }
         requires running { start_fits self.now.start ≡ true }
         requires due { IsDue setup.now self.now }
         ensures { result ≡ is_same setup.now.scenario setup.now.book (core_state setup.now self.now 0) (next_test setup.now self.now) }
     {
-        // In the first round there is none before.
+        // In round 1 there is no earlier test.
         if self.round == 1 {
             return false;
         }
@@ -287,7 +305,7 @@ impl Course {
         !self.past.has_changed(setup.book(), place, station)
     }
 
-    // Whether the station that comes next in this round is still asked.
+    // Whether the station of the next turn is active.
     fn is_due(&self, setup: &Setup) -> bool
         requires holds { IsCourse setup.now self.now }
         requires turn { self.now.turn < length setup.now.scenario.stations }
@@ -296,8 +314,8 @@ impl Course {
         self.clock.is_active(setup.place(self.turn))
     }
 
-    // Goes past the next turn where no query is due there: at the end of a round, at a station that is not asked any more,
-    // or at a test that is settled without one. Says whether it did.
+    // Skips the next turn if no query is due there, and returns whether it did. That is at the end of a round, at a station that is
+    // not active, or at a test that is settled without a query.
     fn pass(&mut self, setup: &Setup) -> bool
         requires holds { IsCourse setup.now self.old }
         requires running { start_fits self.old.start ≡ true }
@@ -323,7 +341,7 @@ impl Course {
         true
     }
 
-    // At the end of a round goes to the next one, if there is one. Says whether it did.
+    // Goes to the next round if there is one. The clock must be at the end of a round. Returns whether it did.
     fn next_round(&mut self, setup: &Setup) -> bool
         requires holds { IsCourse setup.now self.old }
         requires end { self.old.turn ≡ length setup.now.scenario.stations }
@@ -338,8 +356,8 @@ impl Course {
         true
     }
 
-    /// Goes on to the next test that needs a query, or to the end, past each test of a station that is not asked any more,
-    /// and settles each test that needs none on the way. It takes no memory.
+    /// Goes on to the next test that needs a query, or to the end. Skips stations that are not active, and settles each test that
+    /// needs no query. Allocates nothing.
     pub fn go_on(&mut self, setup: &Setup)
         requires holds { IsCourse setup.now self.old }
         requires running { start_fits self.old.start ≡ true }
@@ -353,7 +371,7 @@ impl Course {
     }
 }
 
-// The map takes the channels of the last fit of the station at this place, where it stands on air.
+// If the station at this place is on air, overwrites the map with the channels of its last fit.
 fn take_if(map: &mut AirMap, past: &Past, place: usize, standing: &Standing)
     requires place { place < length past.now.parts.stations }
     requires within { (f : ℕ) → has_station (last_fit past.now.steps (slice_index past.now.parts.stations place) []) f ≡ true → is_in map.old.stations f ≡ true }
@@ -367,7 +385,7 @@ fn take_if(map: &mut AirMap, past: &Past, place: usize, standing: &Standing)
     }
 }
 
-// The station, where it stands so: on air, it joins the parts.
+// If the station's standing is on air, merges the station with the components that it interferes with.
 fn air_if(past: &mut Past, book: &Book, station: u32, standing: &Standing)
     requires known { is_in past.old.parts.stations station ≡ true }
     requires few { past.old.on_air < MOST_STATIONS }
@@ -381,7 +399,7 @@ fn air_if(past: &mut Past, book: &Book, station: u32, standing: &Standing)
     }
 }
 
-// What is kept before the first test: the stations that stand on air from the start, and no step.
+// Returns the test history before the first test: the stations on air from the start, and no step.
 fn first_past(alloc: Global, setup: &Setup, standings: &[Standing]) -> Result<Past, NoMemory>
     requires { AreStandings setup.now.scenario (opening_state setup.now.scenario) standings.now }
     ensures parts { IfOk result (λ p. IsPartsOf setup.now.scenario setup.now.book (opening_state setup.now.scenario) p.parts) }
@@ -396,7 +414,7 @@ fn first_past(alloc: Global, setup: &Setup, standings: &[Standing]) -> Result<Pa
     Ok(past)
 }
 
-// The stations that stand on air from the start go on air, one after another.
+// Puts the stations on air that are on air from the start, one after another.
 fn air_those(past: &mut Past, setup: &Setup, standings: &[Standing])
     requires stations { past.old.parts.stations ≡ facilities setup.now.scenario }
     requires none { (z : ℕ) → label_of past.old.parts z ≡ 0 }

@@ -1,6 +1,8 @@
-//! The check of a transcript's start and steps, one after the other: an auction is carried out again, each query settled as the
-//! transcript says, where the certificate for it is let through. In this order: one step is checked (`step_check`, by `shown_by`,
-//! `receipts`, `log_numbers` and `step_err`), then the start, then all steps, then the end.
+//! Checks a transcript by carrying out the auction again: each query is settled as the transcript says, if its certificate is
+//! accepted. `transcript_check` calls `follow_whole`; `auction` calls `follow_kept`.
+//!
+//! One step is checked by `step_check` (with `shown_by`, `receipts`, `log_numbers` and `step_err`). This file checks the start,
+//! then all steps, then the end.
 
 ghost use Rattle.std.specs.Prelude.{◌≡◌, ◌<◌, ◌^◌, ◌&&◌, [], IfErr, IfOk, List, None, OnOk, Option, Some, length, not, option_map, true};
 ghost use Rattle.auction_core.specs.Setup.{IsOfAuction};
@@ -33,7 +35,7 @@ use pack_defs::order::Order;
 use pack_defs::scenario::Scenario;
 use std::alloc::Global;
 
-// The error of a step at fault.
+// Returns the error of the transcript for an error in this step.
 fn at(step: u64, e: StepErr) -> ResumeErr
     ensures why { (found : Option ShownWhy) → IsStepFault e found → Explains result (option_map (λ why. record { step = step; why = why }) found) }
     ensures early { IsEarly result step }
@@ -44,14 +46,14 @@ fn at(step: u64, e: StepErr) -> ResumeErr
     }
 }
 
-// Whether the start was shown as empty.
+// Whether the start test was settled by an empty start set.
 fn is_empty_shown(start: &Option<Shown>) -> bool
     ensures { result ≡ is_empty_shown start.now }
 {
     matches!(start, Some(Shown::Empty))
 }
 
-// Settles the start test by a fit.
+// Settles the start test by a fit, if the fit is valid.
 fn start_fit(alloc: Global, clockwork: &mut Clockwork, delta: ChannelMap) -> Result<(), StepErr>
     requires auction { IsOfAuction clockwork.old.scenario clockwork.old.book }
     requires standing { clockwork.old.state.start ≡ None }
@@ -74,7 +76,7 @@ fn start_fit(alloc: Global, clockwork: &mut Clockwork, delta: ChannelMap) -> Res
     }
 }
 
-// Checks how the start is shown, and settles its test by it, where it needs a query.
+// Checks how the start test was settled, and settles it if it needs a query.
 fn check_start(alloc: Global, clockwork: &mut Clockwork, start: Shown) -> Result<(), StepErr>
     requires auction { IsOfAuction clockwork.old.scenario clockwork.old.book }
     requires opening { clockwork.old.state ≡ opening clockwork.old.scenario clockwork.old.book clockwork.old.state.order }
@@ -132,7 +134,7 @@ fn check_steps(
     Ok(())
 }
 
-// The auction once the start and every step of the transcript are checked.
+// Returns the auction once the start and every step of the transcript are checked.
 fn follow(
     alloc: Global,
     book: &Book,
@@ -164,8 +166,8 @@ fn follow(
     }
 }
 
-// Whether the steps of a transcript, so many, led the auction to its end. A step is missing where the auction has not ended, or
-// has settled more tests without a query than these steps.
+// Checks that `steps` steps led the auction to its end. A step is missing if the auction has not ended, or if it settled further
+// tests without a query.
 fn check_end(clockwork: &Clockwork, steps: usize) -> Result<(), ResumeErr>
     requires small { steps < 2 ^ 63 }
     ensures ended { OnOk result (has_ended clockwork.now.state ≡ true) }
@@ -181,12 +183,12 @@ fn check_end(clockwork: &Clockwork, steps: usize) -> Result<(), ResumeErr>
     Ok(())
 }
 
-/// The auction of this scenario and book, carried out again as a whole transcript has it, at its end. No solver is asked. It costs
-/// what the certificates cost to check, which are moved, and what each query costs to put.
+/// Carries out the auction of this scenario and book again as a complete transcript says, and returns it at its end. Runs no
+/// solver. Moves the certificates. Cost: what the certificates cost to check, and what building each query costs.
 ///
 /// # Errors
 ///
-/// The first step that is not shown, and why; or want of memory.
+/// Fails with the first step that is not proved and the reason, or if memory runs out.
 pub fn follow_whole(
     alloc: Global,
     book: &Book,
@@ -211,7 +213,7 @@ pub fn follow_whole(
     }
 }
 
-// The auction as far as these steps go, behind a start that was shown, or to its end where they have one.
+// Returns the auction after these steps, or at its end if the transcript has one (`ended`). The transcript has a start.
 fn follow_started(
     alloc: Global,
     book: &Book,
@@ -238,18 +240,19 @@ fn follow_started(
     }
 }
 
-// Whether nothing is kept behind a start test that stands.
+// Whether a transcript without a start is allowed: it has neither steps nor an end.
 fn is_unstarted(steps: &[TranscriptStep], ended: bool) -> bool
     ensures { result ≡ (is_empty steps.now && not ended) }
 {
     steps.is_empty() && !ended
 }
 
-/// The auction of this scenario and book as far as what is kept of a transcript has it, at its next query or its end.
+/// Returns the auction of this scenario and book at the place where the beginning of a transcript leaves it: at its next query or
+/// at its end.
 ///
 /// # Errors
 ///
-/// The first step that is not shown, and why; or want of memory.
+/// Fails with the first step that is not proved and the reason, or if memory runs out.
 pub(crate) fn follow_kept(
     alloc: Global,
     book: &Book,

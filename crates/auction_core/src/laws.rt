@@ -1,4 +1,4 @@
-//! Laws of the core's definitions, and the worked auction told posting by posting.
+//! Laws of the auction's definitions, and the worked example, posting by posting. Each function is empty; its clauses are the law.
 
 ghost use Rattle.std.specs.Prelude.{false, Option, ◌≡◌, List, [], ◌∷◌, ◌++◌, Some, None, true, map};
 ghost use Rattle.std.specs.List.{list_any};
@@ -25,7 +25,7 @@ use crate::posting::{Posting, Reply};
 use crate::record::{Ending, Record, Shown, Step};
 use cert_types::answer::{Answer, Place, Receipt};
 
-/// At the fourth query an answer to the third is told so; after the fifth the auction has ended.
+/// At the fourth query, an answer to the third gets the reply `WrongQuery`. After the fifth query the auction has ended.
 pub fn an_old_answer()
     ensures fourth { (state_after (learner 1000 ∷ []) three_fits).number ≡ 4 }
     ensures wrong_query { let state = state_after (learner 1000 ∷ []) three_fits in (take (auction_of_three (learner 1000 ∷ [])) three_stations state (posting 0 3 (fit 3 15))).0 ≡ Reply.WrongQuery 4 }
@@ -34,7 +34,8 @@ pub fn an_old_answer()
     ensures number { (state_after (learner 1000 ∷ []) (four_fits ++ posting 0 5 refuted ∷ [])).number ≡ 6 }
 {}
 
-/// Of two workers' Spents at the fifth query the first is noted, its second is told so, and the other's settles the test.
+/// Two workers post receipts at the fifth query: the first receipt becomes pending, a second of the same worker gets
+/// `AlreadySpent`, and the other worker's settles the test.
 pub fn two_receipts()
     ensures noted { let state = state_after (learner 1 ∷ learner 1 ∷ []) four_fits in (take (auction_of_three (learner 1 ∷ learner 1 ∷ [])) three_stations state (posting 0 5 one_line)).0 ≡ Reply.Noted }
     ensures again { let state = state_after (learner 1 ∷ learner 1 ∷ []) (four_fits ++ posting 0 5 one_line ∷ []) in (take (auction_of_three (learner 1 ∷ learner 1 ∷ [])) three_stations state (posting 0 5 one_line)).0 ≡ Reply.AlreadySpent }
@@ -42,26 +43,28 @@ pub fn two_receipts()
     ensures stranger { let state = state_after (learner 1 ∷ learner 1 ∷ []) four_fits in (take (auction_of_three (learner 1 ∷ learner 1 ∷ [])) three_stations state (posting 2 5 (fit 3 15))).0 ≡ Reply.Stranger }
 {}
 
-/// A posting that is turned away, whose answer is at fault, or whose worker's receipt stands noted already, leaves the state.
+/// A posting leaves the state unchanged if it is turned away, its answer is invalid, or a receipt of its worker is pending already.
 pub fn a_refused_posting_changes_nothing()
     ensures turned { (sc : Scenario) (book : BookView) (state : CoreState) (p : PostingView) (reply : Reply) → turned_away sc state p.worker p.number ≡ Some reply → take sc book state p ≡ (reply, state) }
     ensures rejected { (sc : Scenario) (book : BookView) (state : CoreState) (p : PostingView) (place : Place) → turned_away sc state p.worker p.number ≡ None → fault_of sc book state p ≡ Some place → take sc book state p ≡ (Reply.Rejected place, state) }
     ensures again { (sc : Scenario) (book : BookView) (state : CoreState) (p : PostingView) (receipt : Receipt) → turned_away sc state p.worker p.number ≡ None → fault_of sc book state p ≡ None → p.answer ≡ Answer.Spent receipt → is_noted state.noted p.worker ≡ true → take sc book state p ≡ (Reply.AlreadySpent, state) }
 {}
 
-/// A posting whose answer was looked at before does what a posting with that answer does.
+/// A posting whose answer was checked before does what a posting with that answer does.
 pub fn looked_at_before()
     ensures { (sc : Scenario) (book : BookView) (state : CoreState) (posting : Posting) (answer : Answer) → StandsFor sc book state posting answer → taken sc book state posting ≡ take sc book state (with_answer posting answer) }
 {}
 
-/// Whatever is posted, by any workers, in any order, stale, doubled or lying: the history of the postings replays to the
-/// state, the state keeps the clock rule, and once the auction has ended its record is backed. The postings so far are a
-/// list too, so this holds at every point of an auction. Memory has no part in it.
+/// The law of all postings, by any workers, in any order, stale, doubled or lying. Their history replays to the state, the state
+/// keeps the clock rule, and once the auction has ended its record is backed.
+///
+/// Every beginning of a list of postings is a list of postings too, so the law holds at each point of an auction. Memory plays no
+/// part in it.
 pub fn whatever_is_posted()
     ensures { (sc : Scenario) (book : BookView) (order : Order) (postings : List PostingView) → IsAuction sc book → HoldsAfter sc book order postings }
 {}
 
-/// What a history replays to keeps the clock rule, and its record is backed once the auction has ended. A history is any
+/// The state to which a history replays keeps the clock rule, and its record is backed once the auction has ended. A history is any
 /// list of entries that replays, whoever kept it.
 pub fn a_replayed_state_keeps_the_rule()
     ensures rule { (sc : Scenario) (book : BookView) (order : Order) (history : List EntryView) (state : CoreState) → IsAuction sc book → replay sc book order history ≡ Some state → KeepsTheRule sc book state }
@@ -69,32 +72,33 @@ pub fn a_replayed_state_keeps_the_rule()
     ensures backed { (sc : Scenario) (book : BookView) (order : Order) (history : List EntryView) (state : CoreState) → IsAuction sc book → replay sc book order history ≡ Some state → has_ended state ≡ true → IsBacked sc book order (record_of sc state) }
 {}
 
-/// The same from any state that keeps the clock rule, as one that an auction goes on from: whatever is posted, the history
-/// replays from that state; what it leaves has the state's start and begins with its steps, and none of the others is shown by
-/// a proof from outside; it keeps the clock rule; and once the auction has ended its record is backed.
+/// The same law from any state that keeps the clock rule, such as one from which an auction continues. Whatever is posted, the
+/// history replays from that state to the later one. The later state has the same start, begins with the same steps, and adds none
+/// settled by a proof from outside. It keeps the clock rule, and once the auction has ended its record is backed.
 pub fn whatever_is_posted_from()
     ensures { (sc : Scenario) (book : BookView) (first : CoreState) (postings : List PostingView) → IsAuction sc book → KeepsTheRule sc book first → HoldsFrom sc book first postings }
 {}
 
-/// What a history replays to from a state goes on from it, and keeps the clock rule where the state does.
+/// The state to which a history replays continues the state from which it was replayed, and keeps the clock rule if that state
+/// does.
 pub fn what_replays_from_a_state()
     ensures goes_on { (sc : Scenario) (book : BookView) (first : CoreState) (history : List EntryView) (state : CoreState) → replay_from sc book history first ≡ Some state → GoesOn first state }
     ensures rule { (sc : Scenario) (book : BookView) (first : CoreState) (history : List EntryView) (state : CoreState) → IsAuction sc book → KeepsTheRule sc book first → replay_from sc book history first ≡ Some state → KeepsTheRule sc book state }
 {}
 
-/// The state that an auction goes on with after a start and some first steps, each shown as it has to be, keeps the clock rule.
-/// It has that start and begins with those steps, and so does whatever postings leave of it.
+/// An auction that continues after a start and some first steps keeps the clock rule, if the start and each step are properly
+/// settled. Its state has that start and begins with those steps, and so does every state after further postings.
 pub fn an_auction_that_goes_on()
     ensures rule { (sc : Scenario) (book : BookView) (order : Order) (start : Option Shown) (steps : List Step) → IsAuction sc book → IsPrefix sc book order start steps → KeepsTheRule sc book (resumed sc book order start steps) }
     ensures goes_on { (sc : Scenario) (book : BookView) (order : Order) (start : Option Shown) (steps : List Step) (postings : List PostingView) → IsAuction sc book → IsPrefix sc book order start steps → GoesOn (record (before_start sc order) { start = start; steps = steps }) (after_postings sc book postings (resumed sc book order start steps)) }
 {}
 
-/// No posting makes a proof from outside: after any postings no step is shown by one.
+/// No posting makes a proof from outside: after any postings, no step is settled by one.
 pub fn no_posting_is_from_outside()
     ensures { (sc : Scenario) (book : BookView) (order : Order) (postings : List PostingView) → list_any (λ x. is_outside x.shown) (state_of sc book order postings).steps ≡ false }
 {}
 
-/// The state that an auction opens with keeps the clock rule, and so does the state after any one posting.
+/// The state with which an auction opens keeps the clock rule, and so does the state after any one posting.
 pub fn a_posting_keeps_the_rule()
     ensures opening { (sc : Scenario) (book : BookView) (order : Order) → IsAuction sc book → KeepsTheRule sc book (opening sc book order) }
     ensures posting { (sc : Scenario) (book : BookView) (state : CoreState) (p : PostingView) → IsAuction sc book → KeepsTheRule sc book state → KeepsTheRule sc book (take sc book state p).1 }
@@ -106,13 +110,13 @@ pub fn an_ended_record_is_backed()
     ensures { (sc : Scenario) (book : BookView) (state : CoreState) → KeepsTheRule sc book state → has_ended state ≡ true → IsBacked sc book state.order (record_of sc state) }
 {}
 
-/// The map of a backed record of an auction that was carried through is clean, and of exactly the stations on air once the
-/// clock rule has gone through every test, with those that its steps show undecided left open.
+/// If a backed record is of an auction that was carried through, its map is clean. Its stations are exactly those on air under the
+/// clock rule, where the record's undecided tests count as undecided.
 pub fn a_done_record_has_a_clean_map()
     ensures { (sc : Scenario) (book : BookView) (order : Order) (rec : Record) → IsAuction sc book → IsBacked sc book order rec → rec.ending ≡ Ending.Done → IsClean book rec.map × (map (λ x. x.0) rec.map ≡ on_air_set sc (clock_rule sc book order (undecided_of rec.steps))) }
 {}
 
-/// The records of the example: its total is 60 cents, and with two budgets of one line its last test is undecided.
+/// The records of the example. Its total is 60 cents. With two budgets of one line, its last test is undecided.
 pub fn records_of_three_stations()
     ensures decided { let state = state_after (learner 1000 ∷ []) (four_fits ++ posting 0 5 refuted ∷ []) in (record_of (auction_of_three (learner 1000 ∷ [])) state).total ≡ 60 }
     ensures none_undecided { let state = state_after (learner 1000 ∷ []) (four_fits ++ posting 0 5 refuted ∷ []) in undecided_of state.steps ≡ [] }
@@ -120,25 +124,24 @@ pub fn records_of_three_stations()
     ensures map { let state = state_after (learner 1000 ∷ []) (four_fits ++ posting 0 5 refuted ∷ []) in state.map ≡ (1, 15) ∷ (2, 14) ∷ [] }
 {}
 
-/// The example is an auction, so that the laws above speak of it.
+/// The example is an auction, so the laws above apply to it.
 pub fn three_stations_are_an_auction()
     ensures { IsAuction (auction_of_three (learner 1000 ∷ [])) three_stations }
 {}
 
-/// Each reply, in one list of postings.
+/// Each kind of reply, in one list of postings.
 pub fn each_reply()
     ensures { replies_to (learner 1 ∷ learner 1 ∷ []) of_each_kind ≡ Reply.WrongQuery 1 ∷ Reply.Stranger ∷ Reply.Rejected (Place.Station 1) ∷ Reply.Advanced (Some 2) ∷ Reply.Advanced (Some 3) ∷ Reply.Advanced (Some 4) ∷ Reply.Advanced (Some 5) ∷ Reply.Noted ∷ Reply.AlreadySpent ∷ Reply.Advanced None ∷ Reply.Ended ∷ [] }
 {}
 
-/// The rows of the result are the same, whichever way the fits put the stations on air; the map isn't.
+/// The rows of the result do not depend on the channels by which the fits put the stations on air; the map does.
 pub fn rows_of_either_way()
     ensures one { rows_after (learner 1000 ∷ []) (four_fits ++ posting 0 5 refuted ∷ []) ≡ row 1 Outcome.Exit 2 0 ∷ row 2 Outcome.Exit 1 0 ∷ row 3 Outcome.Frozen 2 60 ∷ [] }
     ensures other { rows_after (learner 1000 ∷ []) (other_fits ++ posting 0 5 refuted ∷ []) ≡ row 1 Outcome.Exit 2 0 ∷ row 2 Outcome.Exit 1 0 ∷ row 3 Outcome.Frozen 2 60 ∷ [] }
     ensures map { (state_after (learner 1000 ∷ []) (other_fits ++ posting 0 5 refuted ∷ [])).map ≡ (1, 14) ∷ (2, 15) ∷ [] }
 {}
 
-/// A start set that is refuted, that holds a station without a channel, or on which every worker spends its budget, ends the
-/// auction.
+/// The auction ends at once if its start set is refuted, contains a station without a channel, or exhausts every worker's budget.
 pub fn starts_that_end_an_auction()
     ensures refuted { has_ended (start_after (learner 1000 ∷ []) (posting 0 1 refuted ∷ [])) ≡ true }
     ensures refuted_so { (record_of (all_on_air (learner 1000 ∷ [])) (start_after (learner 1000 ∷ []) (posting 0 1 refuted ∷ []))).ending ≡ Ending.StartRefuted }
@@ -148,7 +151,7 @@ pub fn starts_that_end_an_auction()
     ensures bare_so { (opening lone_start lone_station ByFacility).start ≡ Some (Shown.NoChannel 1) }
 {}
 
-/// Without a station, and where the only station has no channel, an auction ends without a query.
+/// An auction without stations, and one whose only station has no channel, end without a query.
 pub fn auctions_without_a_query()
     ensures none { has_ended (opening no_station three_stations ByFacility) ≡ true }
     ensures none_total { (record_of no_station (opening no_station three_stations ByFacility)).total ≡ 0 }
@@ -157,8 +160,8 @@ pub fn auctions_without_a_query()
     ensures bare_total { (record_of lone_bid (opening lone_bid lone_station ByFacility)).total ≡ 100 }
 {}
 
-/// Stations without a channel are settled in a row: those before the one query by the opening, those after it by its
-/// answer, which is told that no query is left.
+/// Stations without a channel are settled in a row. Those before the one query are settled when the auction opens. Those after it
+/// are settled by its answer, whose reply says that no query is left.
 pub fn settled_in_a_row()
     ensures before { map test_of (five_after []).steps ≡ test 1 1 ∷ test 1 2 ∷ [] }
     ensures query { (five_after []).number ≡ 1 }
@@ -168,8 +171,8 @@ pub fn settled_in_a_row()
     ensures total { (record_of five_bids (five_after (posting 0 1 (fit 3 14) ∷ []))).total ≡ 400 }
 {}
 
-/// Where station 2 is on air from the start, the second test of station 1 asks about the same two stations as its first one.
-/// So it needs no query, and the station goes on air by its first fit.
+/// With station 2 on air from the start, the second test of station 1 asks about the same two stations as its first. It needs no
+/// query, and station 1 goes on air by its first fit.
 pub fn a_test_like_the_one_before()
     ensures number { (second_after fits_beside_second).number ≡ 4 }
     ensures steps { (second_after fits_beside_second).steps ≡ steps_beside_second }

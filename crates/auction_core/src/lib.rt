@@ -1,9 +1,25 @@
-//! The auction's core: what each posting of a worker does, and what a finished record shows.
+//! The core of the auction: what each answer that a worker posts does, and what a finished record proves.
 //!
-//! It may call `cert_types` and what that stands on, `offer_sched` and `freeze_ledger`. It calls no solver, opens no file and starts no
-//! thread; boards, races and the check of transcripts stand on it. Read `auction` first, with `posting` and `record`, then `clockwork`,
-//! then `course`, `clock` and `past`; of the check of what was recorded `transcript`, `prefix`, `follow` and `step_check`. The laws are
-//! in `laws` and `part_laws`.
+//! The crate calls `cert_types` with its dependencies, `offer_sched` and `freeze_ledger`. It calls no solver, opens no file and
+//! starts no thread. The crates for boards, races and transcript checks are built on it.
+//!
+//! The modules in reading order:
+//!
+//! - `auction`: an auction between two postings, and what a posting does to it.
+//! - `posting`: what a worker posts, and the replies.
+//! - `record`: what is left of an auction that has ended.
+//! - `clockwork`: an auction between two queries, whoever answers them (a query session).
+//! - `setup`, `turns`, `station_list`: what is fixed while an auction runs, the test order of a round, and the place of a station.
+//! - `course`: the clock between two tests, and how a settled test moves it (a clock run).
+//! - `clock`: the standing of each station, and what the frozen stations are paid.
+//! - `air_map`, `parts`: the channel map of the stations on air, and their components.
+//! - `past`, `step_list`: the test history, and a compact list of the steps.
+//! - `start`: the start test, and how it is settled without a query.
+//! - `taking`, `notes`: what a posting does to the auction, and the pending receipts of the current query.
+//! - `transcript`, `prefix`: a transcript and the beginning of one, as values.
+//! - `follow`, `step_check`: check a transcript by carrying out the auction again.
+//! - `shown_by`, `receipts`, `log_numbers`, `step_err`: check the certificate of one step.
+//! - `laws`, `part_laws`: laws of the definitions, and worked examples.
 #![tactic(auto)]
 
 pub mod air_map;

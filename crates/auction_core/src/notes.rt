@@ -1,4 +1,5 @@
-//! The receipts that stand noted on a query, and the list of all of them once the last one comes.
+//! The pending receipts of the current query: a slot for each worker. `taking` calls `note`, `clear` and `all_with`; `auction`
+//! reserves the room beforehand, so that a posting allocates nothing.
 
 ghost use Rattle.std.specs.Prelude.{◌≡◌, ◌<◌, ◌≤◌, ◌+◌, ◌++◌, [], IfOk, OnOk, false, length, map, true, vec_len, vec_capacity};
 ghost use Rattle.auction_core.specs.Take.{is_noted, noted_with};
@@ -9,11 +10,11 @@ use std::alloc::{AllocError as NoMemory, Global};
 use std::marker::Model;
 use std::mem;
 
-/// A place for each worker's receipt on the standing query, and room for a list of all of them.
+/// A slot for each worker's receipt for the current query, and reserved room for a list of all receipts.
 #[derive(Debug, Drop)]
 pub struct Notes {
     places: Vec<Option<Receipt>>,
-    // Empty; its room is for a receipt of every worker.
+    // Always empty. Its capacity is meant for a receipt of every worker.
     all: Vec<Receipt>,
 }
 
@@ -33,7 +34,11 @@ impl Model for Notes {
 }
 
 impl Notes {
-    /// A place for each of so many workers; none is noted. The only error is want of memory.
+    /// Returns a slot for each of this many workers, all empty.
+    ///
+    /// # Errors
+    ///
+    /// Fails only if memory runs out.
     pub(crate) fn of_none(alloc: Global, workers: usize) -> Result<Notes, NoMemory>
         ensures places { IfOk result (λ notes. notes.workers ≡ workers) }
         ensures none { IfOk result (λ notes. notes.noted ≡ []) }
@@ -48,7 +53,7 @@ impl Notes {
         })
     }
 
-    /// How many receipts stand noted. It goes over the workers.
+    /// Returns how many receipts are pending. Cost: a pass over the workers.
     pub fn count(&self) -> usize
         ensures { result ≡ length self.now.noted }
     {
@@ -61,15 +66,18 @@ impl Notes {
         count
     }
 
-    /// Whether this worker's receipt stands noted; never of a worker that has no place.
+    /// Returns whether this worker's receipt is pending; `false` for a worker without a slot.
     pub fn has(&self, worker: u32) -> bool
         ensures { result ≡ is_noted self.now.noted worker }
     {
         (worker as usize) < self.places.len() && self.places[worker as usize].is_some()
     }
 
-    /// Makes room for a receipt of every worker. The only error is want of memory. Whatever it answers, room that there was
-    /// is there still, and nothing else is changed.
+    /// Reserves room for a receipt of every worker. Success or failure, no room is lost and nothing else changes.
+    ///
+    /// # Errors
+    ///
+    /// Fails only if memory runs out.
     pub fn reserve(&mut self) -> Result<(), NoMemory>
         ensures ready { OnOk result (self.new.ready ≡ true) }
         ensures kept { self.old.ready ≡ true → self.new.ready ≡ true }
@@ -79,7 +87,7 @@ impl Notes {
         self.all.reserve(self.places.len())
     }
 
-    /// Notes the receipt of a worker that has none noted. It takes no memory.
+    /// Stores the receipt of a worker that has none pending. Allocates nothing.
     pub fn note(&mut self, worker: u32, receipt: Receipt)
         requires place { worker < self.old.workers }
         requires new { is_noted self.old.noted worker ≡ false }
@@ -90,7 +98,7 @@ impl Notes {
         self.places[worker as usize] = Some(receipt);
     }
 
-    /// Lets every noted receipt go. It takes no memory.
+    /// Drops every pending receipt. Allocates nothing.
     pub fn clear(&mut self)
         ensures none { self.new.noted ≡ [] }
         ensures places { self.new.workers ≡ self.old.workers }
@@ -101,7 +109,7 @@ impl Notes {
         }
     }
 
-    /// Gives out the noted receipts and this one, in order of worker; none is noted any more. It takes no memory.
+    /// Returns the pending receipts and this one, in order of worker, and leaves every slot empty. Allocates nothing.
     pub(crate) fn all_with(&mut self, worker: u32, receipt: Receipt) -> Items<Receipt>
         requires ready { self.old.ready ≡ true }
         requires place { worker < self.old.workers }
@@ -117,7 +125,7 @@ impl Notes {
         Items::from_vec(all)
     }
 
-    // Moves every noted receipt behind those of the list, in order of worker; none is noted any more.
+    // Moves every pending receipt to the end of the list, in order of worker, and leaves every slot empty.
     fn move_into(&mut self, receipts: &mut Vec<Receipt>)
         requires { vec_len receipts.old + self.old.workers ≤ vec_capacity receipts.old }
         ensures moved { receipts.new.items ≡ receipts.old.items ++ map (λ n. n.receipt) self.old.noted }

@@ -1,4 +1,9 @@
-//! The parts of the stations on air: which of them reach one another, and when a part last changed.
+//! The connected components of the stations on air, and when each last changed. `past` joins a component when a station goes on
+//! air; `clockwork` reads off which stations a query asks about.
+//!
+//! Components are kept as labels: each station on air has the label of its component (quick-find). Labels number the stations in
+//! the order in which they went on air, so a label also dates the last change of its component. Testing only the component of a
+//! station is the decomposition of SATFC (Newman, Fréchette, Leyton-Brown 2017).
 
 ghost use Rattle.std.specs.Prelude.{◌≡◌, ◌<◌, ◌≤◌, ℕ, List, IfOk, IsTrue, false, filter, length, map, nat_le, ◌==◌, if◌then◌else◌};
 ghost use Rattle.std.specs.List.{list_any};
@@ -14,8 +19,8 @@ use pack_defs::channel_map::ChannelMap;
 use std::alloc::{AllocError as NoMemory, Global};
 use std::marker::Model;
 
-/// A label for each station of an auction, ascending by station: 0 off air, and else the number of the station of its part
-/// that went on air last.
+/// A label for each station of an auction, ascending by station. The label is 0 off air. On air, it is the greatest number, by the
+/// order of going on air, in the station's component.
 #[derive(Debug, Drop)]
 pub struct Parts {
     stations: Vec<u32>,
@@ -35,7 +40,11 @@ impl Model for Parts {
 }
 
 impl Parts {
-    /// No station on air, among these. The only error is want of memory.
+    /// Returns labels for these stations, none of them on air.
+    ///
+    /// # Errors
+    ///
+    /// Fails only if memory runs out.
     pub fn none(alloc: Global, stations: &[u32]) -> Result<Parts, NoMemory>
         requires { IsTrue (is_ascending stations.now) }
         ensures stations { IfOk result (λ p. p.stations ≡ stations.now) }
@@ -47,15 +56,16 @@ impl Parts {
         })
     }
 
-    /// The label of a station. It searches by halves.
+    /// Returns the label of a station, 0 if it is not on air. Binary search.
     pub fn label(&self, station: u32) -> u32
         ensures { result ≡ label_of self.now station }
     {
         label_at(&self.stations, &self.labels, station)
     }
 
-    /// The station goes on air, with this number: the parts that it interferes with become one, of this label. It costs a
-    /// search by halves for each station near it, and a pass over the stations for each of these parts. It takes no memory.
+    /// Puts the station on air under this number and merges the components that it interferes with into one with this label.
+    /// Allocates nothing. Cost: a binary search for each neighbour of the station, and a pass over all stations for each merged
+    /// component.
     pub fn join(&mut self, book: &Book, station: u32, number: u32)
         requires { IsTrue (is_in self.old.stations station) }
         ensures stations { self.new.stations ≡ self.old.stations }
@@ -65,8 +75,8 @@ impl Parts {
         self.put(station, number);
     }
 
-    /// Whether the station interferes with one on air whose part changed at this time or later. It costs a search by
-    /// halves for each station near it.
+    /// Returns whether the station interferes with a station on air whose component changed at this time or later. Cost: a binary
+    /// search for each neighbour of the station.
     pub fn touches_since(&self, book: &Book, station: u32, time: u32) -> bool
         requires { 0 < time }
         ensures { result ≡ touches_since book.now self.now station time }
@@ -74,10 +84,15 @@ impl Parts {
         self.any_since(book.neighbours(station), time)
     }
 
-    /// The station and the stations on air of the labels that it touches, ascending, which are those that a test of it asks
-    /// about; and the map of those on air on these stations. No label is above `most`. It costs a search by halves for each
-    /// station near it, one pass over the stations, and room for `most` marks and twice for all stations, of which the set keeps
-    /// its own. The only error is want of memory.
+    /// Returns what a test of the station asks about: the station with every station on air in a component that it touches,
+    /// ascending; and the channel map restricted to them. No label may be above `most`.
+    ///
+    /// Cost: a binary search for each neighbour of the station and one pass over the stations. Allocates `most + 1` marks and two
+    /// lists as long as the stations.
+    ///
+    /// # Errors
+    ///
+    /// Fails only if memory runs out.
     pub(crate) fn touched_on(
         &self,
         alloc: Global,
@@ -98,7 +113,7 @@ impl Parts {
         Ok((asked.set, last))
     }
 
-    // The label of each of these stations is marked.
+    // Marks the label of each of these stations.
     fn mark(&self, near: &[u32], marks: &mut Vec<bool>)
         requires { (z : ℕ) → label_of self.now z < length marks.old.items }
         ensures { marks.new.items ≡ marked (label_of self.now) near.now marks.old.items }
@@ -109,7 +124,7 @@ impl Parts {
         }
     }
 
-    // The station and the stations on air whose label is marked, and the entries of those with a channel.
+    // Returns the station and the stations on air whose label is marked, with the channel map entries of those.
     fn marked_on(
         &self,
         alloc: Global,
@@ -133,7 +148,7 @@ impl Parts {
         )
     }
 
-    // The parts of these stations have this label.
+    // Gives this label to the components of these stations.
     fn merge_all(&mut self, near: &[u32], number: u32)
         ensures stations { self.new.stations ≡ self.old.stations }
         ensures labels { label_of self.new ≡ merged_labels (label_of self.old) near.now number }
@@ -143,7 +158,7 @@ impl Parts {
         }
     }
 
-    // The part of a station, if it is on air, has this label.
+    // Gives this label to the component of a station, if the station is on air.
     fn merge(&mut self, station: u32, number: u32)
         ensures stations { self.new.stations ≡ self.old.stations }
         ensures labels { label_of self.new ≡ merged_label (label_of self.old) station number }
@@ -158,7 +173,7 @@ impl Parts {
         swap(&mut self.labels, label, number);
     }
 
-    // The station has this label.
+    // Gives this label to the station.
     fn put(&mut self, station: u32, number: u32)
         requires { IsTrue (is_in self.old.stations station) }
         ensures stations { self.new.stations ≡ self.old.stations }
@@ -170,7 +185,7 @@ impl Parts {
         self.labels[place] = number;
     }
 
-    // Whether one of these stations has this label or a greater one.
+    // Whether one of these stations has a label of at least `time`.
     fn any_since(&self, near: &[u32], time: u32) -> bool
         ensures { result ≡ list_any (λ v. nat_le time (label_of self.now v)) near.now }
     {
@@ -183,7 +198,7 @@ impl Parts {
     }
 }
 
-// So many zeros.
+// Returns this many zeros.
 fn zeros(alloc: Global, places: usize) -> Result<Vec<u32>, NoMemory>
     ensures length { IfOk result (λ labels. length labels.items ≡ places) }
     ensures none { IfOk result (λ labels. (fs : List ℕ) (s : ℕ) → label_in fs labels.items s ≡ 0) }
@@ -195,7 +210,7 @@ fn zeros(alloc: Global, places: usize) -> Result<Vec<u32>, NoMemory>
     Ok(labels)
 }
 
-// The number at a station's place; 0 where there is none.
+// Returns the label in a station's slot, 0 if the station has no slot.
 fn label_at(stations: &[u32], labels: &[u32], station: u32) -> u32
     requires ascending { IsTrue (is_ascending stations.now) }
     requires places { length labels.now ≡ length stations.now }
@@ -214,8 +229,8 @@ struct AskedAbout {
     entries: Vec<(u32, u8)>,
 }
 
-// This station, and the stations whose label is marked, with the entries of those that have a channel at their place, by one
-// walk along the places.
+// Returns this station and the stations whose label is marked, with the entries of those that have a channel, in one pass over the
+// slots.
 fn asked_on(
     alloc: Global,
     stations: &[u32],
@@ -247,7 +262,8 @@ fn asked_on(
     Ok(AskedAbout { set, entries })
 }
 
-// Whether a station of this label is this station, or is on air and its label is marked.
+// Whether a test of `station` asks about `z`, whose label is `label`: `z` is the station itself, or is on air and its label is
+// marked.
 fn is_asked(station: u32, marks: &[bool], z: u32, label: u32) -> bool
     requires { label < length marks.now }
     ensures { result ≡ is_asked station marks.now z label }
@@ -255,7 +271,7 @@ fn is_asked(station: u32, marks: &[bool], z: u32, label: u32) -> bool
     z == station || (label != 0 && marks[label as usize])
 }
 
-// Each of these numbers that is the one becomes the other.
+// Replaces each label `old` by `new`.
 fn swap(labels: &mut Vec<u32>, old: u32, new: u32)
     ensures { labels.new.items ≡ map (λ x. swapped old new x) labels.old.items }
 {
@@ -264,7 +280,7 @@ fn swap(labels: &mut Vec<u32>, old: u32, new: u32)
     }
 }
 
-// The number, or `new` in the place of `old`.
+// Returns `new` if the label is `old`, and otherwise the label itself.
 fn swapped(x: u32, old: u32, new: u32) -> u32
     ensures { result ≡ swapped old new x }
 {

@@ -1,4 +1,5 @@
-//! What is kept of the tests so far, so that a test like the one before is found without memory.
+//! The test history: what later tests need to know of the tests so far. `course` records each settled test here. A test that would
+//! repeat the one before is recognised without storing any earlier set.
 
 ghost use Rattle.std.specs.Prelude.{◌≡◌, ◌≤◌, ◌<◌, ◌+◌, ℕ, [], IfOk, IsTrue, OnOk, is_some, length, map, option_map, slice_index, true, unwrap_or};
 ghost use Rattle.pack_defs.specs.Lists.{is_ascending, is_in};
@@ -19,15 +20,15 @@ use pack_defs::station::Station;
 use std::alloc::{AllocError as NoMemory, Global};
 use std::marker::Model;
 
-/// The parts of the stations on air, the steps so far, and of each station how many were on air at its last test and where
-/// its last fit was told.
+/// The components of the stations on air and the steps so far. For each station also the number of stations on air at its last
+/// test, and the place of its last fit.
 #[derive(Debug, Drop)]
 pub struct Past {
     parts: Parts,
     on_air: u32,
     seen: Vec<u32>,
     steps: StepList,
-    // Places among the verdicts of the steps, from 1; 0 before a station's first fit.
+    // Places among the verdicts of the steps, counted from 1; 0 before a station's first fit.
     fits: Vec<usize>,
 }
 
@@ -51,7 +52,11 @@ impl Model for Past {
 }
 
 impl Past {
-    /// No station on air, among these, and no step. The only error is want of memory.
+    /// Returns the history with no station on air and no step.
+    ///
+    /// # Errors
+    ///
+    /// Fails only if memory runs out.
     pub fn none(alloc: Global, stations: &[Station]) -> Result<Past, NoMemory>
         requires { IsTrue (is_ascending (map (λ x. x.id) stations.now)) }
         ensures stations { IfOk result (λ p. p.parts.stations ≡ map (λ x. x.id) stations.now) }
@@ -70,29 +75,32 @@ impl Past {
         })
     }
 
-    /// The parts of the stations on air.
+    /// Returns the components of the stations on air.
     pub fn parts(&self) -> &Parts
         ensures { result.now ≡ self.now.parts }
     {
         &self.parts
     }
 
-    /// The steps so far.
+    /// Returns the steps so far.
     pub fn steps(&self) -> &StepList
         ensures { result.now.steps ≡ self.now.steps }
     {
         &self.steps
     }
 
-    /// How many stations are on air.
+    /// Returns how many stations are on air.
     pub fn on_air(&self) -> u32
         ensures { result ≡ self.now.on_air }
     {
         self.on_air
     }
 
-    /// Makes room for so many steps more, of which one has a verdict. The only error is want of memory. Whatever it answers,
-    /// there is no less room than before, and nothing else is changed.
+    /// Reserves room for `more` further steps and for one verdict. Success or failure, no room is lost and nothing else changes.
+    ///
+    /// # Errors
+    ///
+    /// Fails only if memory runs out.
     pub fn reserve(&mut self, more: usize) -> Result<(), NoMemory>
         ensures room { OnOk result (more ≤ self.new.room) }
         ensures verdicts { OnOk result (1 ≤ self.new.verdicts) }
@@ -103,8 +111,8 @@ impl Past {
         self.steps.reserve(more)
     }
 
-    /// The station goes on air, and joins the parts that it interferes with. It costs a search by halves for each station
-    /// near it, and a pass over the stations for each of these parts. It takes no memory.
+    /// Puts the station on air and merges it with the components that it interferes with. Allocates nothing. Cost: a binary search
+    /// for each neighbour of the station, and a pass over all stations for each merged component.
     pub fn air(&mut self, book: &Book, station: u32)
         requires known { IsTrue (is_in self.old.parts.stations station) }
         requires few { self.old.on_air < MOST_STATIONS }
@@ -116,7 +124,7 @@ impl Past {
         self.parts.join(book, station, self.on_air);
     }
 
-    /// The test of the station at this place is settled so in this round. It takes no memory.
+    /// Records the settled test of the station at this place. Allocates nothing.
     pub fn note(&mut self, place: usize, step: Step)
         requires place { place < length self.old.parts.stations }
         requires station { slice_index self.old.parts.stations place ≡ step.station }
@@ -135,8 +143,8 @@ impl Past {
         self.fits[place] = self.steps.told();
     }
 
-    /// Whether the station at this place interferes with one on air whose part changed since the station's last test. It
-    /// costs the station's pairs.
+    /// Returns whether the station at this place interferes with a station on air whose component changed since the station's last
+    /// test. Cost: a binary search for each neighbour of the station.
     pub(crate) fn has_changed(&self, book: &Book, place: usize, station: u32) -> bool
         requires { place < length self.now.parts.stations }
         ensures { result ≡ touches_since book.now self.now.parts station (slice_index self.now.seen place + 1) }
@@ -145,7 +153,7 @@ impl Past {
             .touches_since(book, station, self.seen[place] + 1)
     }
 
-    /// The entries of the last fit of the station at this place, if it had one.
+    /// Returns the entries of the last fit of the station at this place, if it had one.
     pub fn last_fit(&self, place: usize) -> Option<&ChannelMap>
         requires { place < length self.now.parts.stations }
         ensures { unwrap_or (option_map (λ m. m.now) result) [] ≡ last_fit self.now.steps (slice_index self.now.parts.stations place) [] }
@@ -153,7 +161,11 @@ impl Past {
         self.steps.fit(self.fits[place])
     }
 
-    /// The steps in one list. The only error is want of memory.
+    /// Returns the steps in one list.
+    ///
+    /// # Errors
+    ///
+    /// Fails only if memory runs out.
     pub(crate) fn into_steps(self, alloc: Global) -> Result<Items<Step>, NoMemory>
         ensures { IfOk result (λ steps. steps ≡ self.steps) }
     {
@@ -162,7 +174,7 @@ impl Past {
     }
 }
 
-// Whether the step is shown by a fit.
+// Whether the step was settled by a fit.
 fn is_fit(shown: &Shown) -> bool
     ensures { result ≡ is_some (fit_of shown.now) }
 {

@@ -1,57 +1,57 @@
-//! What workers post, and what they are told.
+//! What workers post, and the replies. The caller checks an answer first (`cert_types::certified`), so that `auction` need not.
 
 use cert_types::answer::{Answer, Place};
 use cert_types::certified::Certified;
 use std::marker::Model;
 use std::snapshot::Snapshot;
 
-/// What a worker posts for a query, once its answer is known to be valid, or where it is first at fault.
+/// A posting of a worker for a query, with the verdict of the check of its answer.
 #[derive(Drop)]
 pub struct Posting {
     /// The worker, from 0.
     pub worker: u32,
-    /// The number of the query that it answers.
+    /// The number of the query that the posting answers.
     pub number: u64,
     pub said: Said,
 }
 
-/// What is known of an answer.
+/// The verdict of the check of an answer.
 #[derive(Drop)]
 pub enum Said {
-    /// It is valid.
+    /// The answer is valid.
     Good(Certified),
-    /// It isn't: its first place at fault.
+    /// The answer is invalid; this is the first error.
     Bad(Place),
 }
 
-/// What a posting is told, by the first that holds.
+/// The reply to a posting: the first of these that applies.
 #[derive(Clone, Copy, Debug, PartialEq, Eq)]
 pub enum Reply {
     /// The auction has ended.
     Ended,
-    /// It answers another query than the standing one, whose number is `now`.
+    /// The posting answers another query than the current one, whose number is `now`.
     WrongQuery { now: u64 },
-    /// The scenario has no such worker.
+    /// The scenario has no worker of this number.
     Stranger,
-    /// The answer is not valid: its first place at fault.
+    /// The answer is invalid; `place` is the first error.
     Rejected { place: Place },
-    /// The standing query is settled. `next` is the next query's number, if there is one.
+    /// The current query is settled. `next` is the number of the next query, if there is one.
     Advanced { next: Option<u64> },
-    /// The worker's receipt for this query stands noted already.
+    /// A receipt of this worker for this query is pending already.
     AlreadySpent,
-    /// The worker's receipt is noted on the standing query.
+    /// The worker's receipt is now pending for the current query.
     Noted,
 }
 
-/// One posting of a history, and what it was told. It keeps no answer in memory: contracts alone see it.
+/// One posting of a history, and the reply. The answer takes no memory: only contracts see it.
 #[derive(Drop)]
 pub struct Entry {
     /// The worker, from 0.
     pub worker: u32,
-    /// The number of the query that it answers.
+    /// The number of the query that the posting answers.
     pub number: u64,
     pub reply: Reply,
-    /// The answer, where it settled the query or was noted.
+    /// The answer, if it settled the query or became a pending receipt.
     pub answer: Option<Snapshot<Answer>>,
 }
 

@@ -1,4 +1,5 @@
-//! What may be kept of a transcript's beginning, and why it is not.
+//! The beginning of a transcript, and why it may not be continued. The parser makes a `Prefix` from a text that may be cut
+//! anywhere; `auction` resumes from it.
 
 ghost use Rattle.std.specs.Prelude.{◌≡◌};
 ghost use Rattle.auction_core.specs.declared.prefix.ResumeErr.TheVariants.{NoMemory};
@@ -10,34 +11,34 @@ use pack_defs::items::Items;
 use pack_defs::order::Order;
 use std::alloc::{AllocError, AllocFailed};
 
-/// The beginning of a transcript, cut anywhere: what is there whole of it.
+/// The beginning of a transcript, cut anywhere: the parts that are complete.
 #[derive(Debug, Drop)]
 pub struct Prefix {
-    /// The order of a round's tests, where the first line is there, which names it.
+    /// The test order of a round, if the first line is there.
     pub order: Option<Order>,
-    /// How the start test was settled, where that is there.
+    /// How the start test was settled, if that line is there.
     pub start: Option<Shown>,
-    /// The steps after it that are there.
+    /// The complete steps after the start.
     pub steps: Items<TranscriptStep>,
     /// Whether the `end` line is there.
     pub ended: bool,
 }
 
-/// Why a step of a transcript is not shown.
+/// Why a step of a transcript is not proved.
 #[derive(Clone, Copy, Debug, PartialEq, Eq)]
 pub enum ShownWhy {
     /// The clock rule asks another test there, or none, or the transcript ends too soon.
     Order,
-    /// What the step says of its test is at fault: at this place of its answer; or, at the place of a worker's kind, a test
-    /// that needs no query is shown by one, or the other way round, a worker is named that the scenario hasn't, or a test
-    /// that was left open hasn't a receipt of each worker.
+    /// The step's certificate is invalid at this place. `Place::Kind` also covers three mistakes. A step is settled by a query
+    /// where none is needed, or the reverse. A step names a worker that the scenario does not have. An undecided step lacks a
+    /// receipt of some worker.
     NotValid(Place),
 }
 
-/// Why an auction does not go on from a transcript or its beginning.
+/// Why an auction does not continue from a transcript or from the beginning of one.
 #[derive(Clone, Copy, Debug, PartialEq, Eq)]
 pub enum ResumeErr {
-    /// A step is not shown: the first one. 0 is the start, and the first step after it is 1.
+    /// The first step that is not proved. 0 is the start; the first step after it is 1.
     NotShown { step: u64, why: ShownWhy },
     /// Memory ran out.
     NoMemory,

@@ -1,4 +1,4 @@
-//! The check of the receipts of a test that was left open.
+//! Checks the receipts of an undecided test. `step_check` calls `undecided`.
 
 ghost use Rattle.std.specs.Prelude.{◌≡◌, IfErr, IfOk, None, length, option_map};
 ghost use Rattle.cert_types.specs.Query.{IsQuery};
@@ -19,7 +19,7 @@ use pack_defs::items::Items;
 use pack_defs::worker::Worker;
 use std::alloc::Global;
 
-// A receipt of a worker, where it is valid and its log begins with the right number.
+// Returns the receipt of a worker if it is valid and its log begins with the right number (`right`).
 fn receipt_step(
     alloc: Global,
     book: &Book,
@@ -45,7 +45,7 @@ fn receipt_step(
     }
 }
 
-// The receipts, each of its worker, where each is valid and its log begins with the right number.
+// Returns the receipts, one of each worker, if each is valid and its log begins with the right number.
 fn receipts(
     alloc: Global,
     book: &Book,
@@ -75,7 +75,8 @@ fn receipts(
     Ok(checked)
 }
 
-/// The receipts, where there is a valid one of each worker, each with the number of its log's first line.
+/// Returns the receipts if there is a valid one of each worker, in order of worker, and each log begins with the number in
+/// `firsts`.
 pub(crate) fn undecided(
     alloc: Global,
     book: &Book,

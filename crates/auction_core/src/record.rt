@@ -1,4 +1,5 @@
-//! What is left of an auction that has ended: its tests, each with how it was settled.
+//! The record of an auction that has ended: its tests, and how each was settled. `clockwork` makes one; `commands` prints
+//! it and stores its result and transcript.
 
 ghost use Rattle.std.specs.Prelude.{◌≡◌};
 ghost use Rattle.auction_core.specs.State.{shows_room};
@@ -12,29 +13,28 @@ use pack_defs::order::Order;
 use pack_defs::owners::Owners;
 use pack_defs::scenario::Scenario;
 
-/// How a test was settled.
+/// How a test was settled, with its certificate where it has one.
 #[derive(Debug, Drop)]
 pub enum Shown {
     /// The start set is empty.
     Empty,
-    /// By the channels that make the last map one of the test's set; for the start test, by a map of the start set.
+    /// By channels: put over the map before, they give a clean channel map of the test's set.
     Fits(ChannelMap),
     /// By the test of the same station one round before, which fits and asked about the same stations.
     Same,
-    /// By a station without a channel.
+    /// By a station of the set that has no channel.
     NoChannel(u32),
-    /// By a worker's refutation: a proof that the test's set does not fit, or a pair of two of its stations, with one channel
-    /// each, that interfere.
+    /// By a worker's refutation: a proof that the test's set does not fit, or a pair of two of its stations, with one channel each,
+    /// that interfere.
     Refuted { worker: u32, how: Refutation },
-    /// By a proof from outside that the test's set does not fit. No posting makes one: it takes the place of an undecided
-    /// verdict.
+    /// By a proof from outside that the test's set does not fit. No posting makes one; it replaces an undecided verdict.
     Outside(OutsideProof),
-    /// By a receipt of every worker, in order of worker, that it has spent its budget on the test.
+    /// By a receipt of every worker, in order of worker, that the worker spent its budget on the test.
     Undecided(Items<Receipt>),
 }
 
 impl Shown {
-    /// Whether this says that the test's set fits.
+    /// Returns whether the test's set was shown to fit.
     pub fn shows_room(&self) -> bool
         ensures { result ≡ shows_room self.now }
     {
@@ -45,7 +45,7 @@ impl Shown {
         }
     }
 
-    /// How an auction ends whose start was shown so.
+    /// Returns how an auction ends if its start test was settled this way.
     pub fn ending(&self) -> Ending
         ensures { result ≡ ending_of self.now }
     {
@@ -78,25 +78,25 @@ pub enum Ending {
     StartUndecided,
 }
 
-/// What is left of a finished auction. What the owners said in a live one stands in its scenario.
+/// The record of an auction that has ended. The scenario of a live auction contains the owners' answers.
 #[derive(Debug, Drop)]
 pub struct Record {
     pub scenario: Scenario,
-    /// In which order the stations of a round were tested.
+    /// The order in which the stations of a round were tested.
     pub order: Order,
     pub ending: Ending,
-    /// How the test of the start set was settled.
+    /// How the start test was settled.
     pub start: Shown,
-    /// The tests that the rule asked, in order.
+    /// The tests that the clock rule asked, in order.
     pub steps: Items<Step>,
-    /// A channel for each station on air; empty where the auction ended at its start.
+    /// A channel for each station on air; empty if the auction ended at its start.
     pub map: ChannelMap,
     /// What the frozen stations are paid together, in cents.
     pub total: u64,
 }
 
 impl Record {
-    /// What the owners said in a live auction; none where their values stood for them.
+    /// Returns the owners' answers of a live auction; `None` if the stations' values decided.
     pub fn owners(&self) -> &Option<Owners>
         ensures { result.now ≡ self.now.scenario.owners }
     {

@@ -1,4 +1,5 @@
-//! What stands while an auction runs.
+//! What is fixed while an auction runs: the scenario, the book, the prices and the test order. `clockwork` makes it once and lends
+//! it to `course`. Nothing here changes after `make`.
 
 ghost use Rattle.std.specs.Arc.{arc_value};
 ghost use Rattle.std.specs.Prelude.{◌≡◌, ◌+◌, ◌<◌, ◌≤◌, IfOk, length, slice_index};
@@ -21,12 +22,12 @@ use std::sync::Arc;
 #[derive(Debug, Drop)]
 pub struct Setup {
     scenario: Scenario,
-    // Shared, so that an answer can be judged by the book while another thread has the auction.
+    // Shared, so that one thread can check an answer against the book while another thread holds the auction.
     book: Arc<Book>,
     order: Order,
     // The price of each round, in cents, from round 0 on.
     schedule: Vec<u32>,
-    // Where each station of a round's order stands in the scenario.
+    // The scenario place of each station, in the order in which a round tests them.
     places: Vec<usize>,
 }
 
@@ -42,8 +43,11 @@ impl Model for Setup {
 }
 
 impl Setup {
-    /// The auction of this scenario and book, tested in this order. It keeps a copy of both. The only error is want of
-    /// memory.
+    /// Returns the setup of an auction of this scenario and book, tested in this order. Copies both.
+    ///
+    /// # Errors
+    ///
+    /// Fails only if memory runs out.
     pub fn make(alloc: Global, sc: &Scenario, book: &Book, order: Order) -> Result<Setup, NoMemory>
         requires { IsOfAuction sc.now book.now }
         ensures { IfOk result (λ setup. setup ≡ record { scenario = sc.now; book = book.now; order = order }) }
@@ -57,7 +61,7 @@ impl Setup {
         })
     }
 
-    /// The scenario. It is within the limits, and the book is of its stations and in order.
+    /// Returns the scenario. It is within the limits, and the book has exactly its stations and is in order.
     pub fn scenario(&self) -> &Scenario
         ensures value { result.now ≡ self.now.scenario }
         ensures sound { IsSetupSound self.now }
@@ -65,35 +69,35 @@ impl Setup {
         &self.scenario
     }
 
-    /// The book.
+    /// Returns the book.
     pub fn book(&self) -> &Book
         ensures { result.now ≡ self.now.book }
     {
         &self.book
     }
 
-    /// The book, with one owner more. No copy is made of it. The only error is that it has too many owners.
+    /// Clones the shared book; no copy is made. Fails if the reference count would overflow.
     pub fn shared_book(&self) -> Result<Arc<Book>, NoMemory>
         ensures { IfOk result (λ book. arc_value book ≡ self.now.book) }
     {
         Arc::try_clone(&self.book)
     }
 
-    /// The order in which a round tests the stations.
+    /// Returns the order in which a round tests the stations.
     pub fn order(&self) -> Order
         ensures { result ≡ self.now.order }
     {
         self.order
     }
 
-    /// The price of each round, in cents, from round 0 on.
+    /// Returns the price of each round, in cents, from round 0 on.
     pub fn schedule(&self) -> &[u32]
         ensures { result.now ≡ prices self.now.scenario }
     {
         &self.schedule
     }
 
-    /// The last round: the one after the last fall of the price.
+    /// Returns the number of the last round, which comes after the last fall of the price.
     pub fn last_round(&self) -> u32
         ensures value { result ≡ last_round self.now.scenario }
         ensures few { result ≤ MOST_ROUNDS + 1 }
@@ -101,7 +105,7 @@ impl Setup {
         self.schedule.len() as u32
     }
 
-    /// How many stations a round may test.
+    /// Returns the number of stations that a round may test: all of the scenario's.
     pub fn turns(&self) -> usize
         ensures value { result ≡ length self.now.scenario.stations }
         ensures few { result ≤ MOST_STATIONS }
@@ -109,7 +113,7 @@ impl Setup {
         self.scenario.stations.as_slice().len()
     }
 
-    /// Where the station that comes here in a round stands in the scenario.
+    /// Returns the place in the scenario of the station that a round tests at this turn, from 0.
     pub fn place(&self, turn: usize) -> usize
         requires { turn < length self.now.scenario.stations }
         ensures within { result < length self.now.scenario.stations }

@@ -1,4 +1,5 @@
-//! The check of what one query was settled by: a fit, a worker's refutation, a proof from outside.
+//! Checks the certificate that settles one query: a fit, a worker's refutation, or a proof from outside. `step_check`, `receipts`
+//! and `follow` call these functions.
 
 ghost use Rattle.std.specs.Prelude.{◌≡◌, IfErr, IfOk, None, Some, option_map, slice_get};
 ghost use Rattle.cert_types.specs.Outside.{outside_fault};
@@ -20,14 +21,14 @@ use pack_defs::channel_map::ChannelMap;
 use pack_defs::worker::{Kind, Worker};
 use std::alloc::Global;
 
-// A worker of no scenario: a fit is judged alike of any.
+// A placeholder worker: the check of a fit does not depend on the worker.
 const NO_ONE: Worker = Worker {
     kind: Kind::Cdcl,
     budget: 1,
     seed: 0,
 };
 
-/// The answer, where it is valid.
+/// Returns the answer if it is valid.
 pub(crate) fn let_through(
     alloc: Global,
     book: &Book,
@@ -46,7 +47,7 @@ pub(crate) fn let_through(
     }
 }
 
-/// The entries of a fit, where it is valid.
+/// Returns the entries of a fit if it is valid.
 #[tactic(auto, unfolding(cert_types::specs::Valid::answer_fault))]
 pub(crate) fn fit(
     alloc: Global,
@@ -66,7 +67,7 @@ pub(crate) fn fit(
     }
 }
 
-/// A refutation of a worker, where the scenario has it and the refutation is valid.
+/// Returns the refutation of a worker if the scenario has the worker and the refutation is valid.
 pub(crate) fn refuted(
     alloc: Global,
     book: &Book,
@@ -90,7 +91,7 @@ pub(crate) fn refuted(
     }
 }
 
-// A proof from outside, where it refutes the task's set.
+// Returns a proof from outside if it refutes the task's set.
 fn refuting(
     alloc: Global,
     book: &Book,
@@ -108,8 +109,8 @@ fn refuting(
     }
 }
 
-/// A proof from outside, where it refutes the task's set and its log begins with the right number, which is the one there
-/// is.
+/// Returns a proof from outside if it refutes the task's set and its log begins with the right number. `firsts` must hold exactly
+/// that number.
 pub(crate) fn outside(
     alloc: Global,
     book: &Book,

@@ -1,4 +1,4 @@
-//! Where a station stands in the list of a scenario.
+//! Finds the place of a station in a scenario's station list. `open_tests`, `result_text` and `transcript_text` call it.
 
 ghost use Rattle.std.specs.Prelude.{◌≡◌, ◌<◌, IsFalse, MatchOption, length, map, slice_index};
 ghost use Rattle.std.specs.List.Sorted.{IsStrictlyIncreasing};
@@ -6,8 +6,8 @@ ghost use Rattle.pack_defs.specs.Lists.{is_in};
 
 use pack_defs::station::Station;
 
-/// The place of the station of this number among ascending stations, if it is one of them. It is sought by halves, and takes no
-/// memory.
+/// Returns the place of the station with this facility number, or `None` if the list has no such station. The list must ascend by
+/// number. Binary search; allocates nothing.
 pub fn place_of(stations: &[Station], station: u32) -> Option<usize>
     requires { IsStrictlyIncreasing (map (λ x. x.id) stations.now) }
     ensures { MatchOption result (IsFalse (is_in (map (λ x. x.id) stations.now) station))

@@ -1,4 +1,5 @@
-//! The check of one step of a transcript.
+//! Checks one step of a transcript against the auction that is carried out again. `follow` calls `check_step` for each step in
+//! order.
 
 ghost use Rattle.std.specs.Prelude.{◌≡◌, ◌==◌, ◌&&◌, IfErr, IfOk, OnOk, None, option_map};
 ghost use Rattle.auction_core.specs.Setup.{IsOfAuction};
@@ -23,7 +24,7 @@ use pack_defs::book::Book;
 use pack_defs::worker::Worker;
 use std::alloc::Global;
 
-// Whether the test is shown by its station's want of a channel.
+// Whether the step says that its own station has no channel.
 fn is_bare(station: u32, shown: &Shown) -> bool
     ensures { result ≡ is_bare station shown.now }
 {
@@ -33,14 +34,14 @@ fn is_bare(station: u32, shown: &Shown) -> bool
     }
 }
 
-// Whether the test is shown by that of the same station one round before.
+// Whether the step refers to the test of the same station one round before.
 fn is_like_before(shown: &Shown) -> bool
     ensures { result ≡ is_like_before shown.now }
 {
     matches!(shown, Shown::Same)
 }
 
-// Whether the test is shown as this line has it, which needed no query.
+// Whether the transcript settles the step in the way of this line, which needed no query.
 fn shows_so(own: StepLine, shown: &Shown) -> bool
     ensures { result ≡ shows_so own.way own.station shown.now }
 {
@@ -51,7 +52,7 @@ fn shows_so(own: StepLine, shown: &Shown) -> bool
     }
 }
 
-// Checks a step against one that was settled without a query, by the line that is kept of it.
+// Compares a step with the auction's own step, which was settled without a query. Returns the fault, if any.
 fn unasked_step(own: StepLine, x: &TranscriptStep) -> Option<ShownWhy>
     ensures { result ≡ line_told own x.now }
 {
@@ -64,7 +65,7 @@ fn unasked_step(own: StepLine, x: &TranscriptStep) -> Option<ShownWhy>
     Some(ShownWhy::NotValid(Place::Kind))
 }
 
-// What settles a query, where it does.
+// Checks the certificate that settles a query, and returns it if it is valid.
 fn settling(
     alloc: Global,
     book: &Book,
@@ -107,7 +108,7 @@ fn settling(
     }
 }
 
-// Whether the query is about this test.
+// Whether the query is about this step's test.
 fn is_about(task: &Task, step: &Step) -> bool
     ensures { result ≡ (task.now.round == step.now.round && is_about task.now.station step.now.station) }
 {
@@ -117,7 +118,7 @@ fn is_about(task: &Task, step: &Step) -> bool
     }
 }
 
-/// Settles the standing query as a step says. The auction is of no further use after an error.
+/// Settles the current query as the step says. After an error the auction must not be used again.
 pub(crate) fn query_step(
     alloc: Global,
     clockwork: &mut Clockwork,
@@ -155,8 +156,8 @@ pub(crate) fn query_step(
     }
 }
 
-/// Checks the step at this place, from 0: against the one there that was settled without a query, or by settling the
-/// standing query. The auction is of no further use after an error.
+/// Checks the step at this place, from 0. If the auction settled that step without a query, the two must agree; otherwise the step
+/// settles the current query. After an error the auction must not be used again.
 pub(crate) fn check_step(
     alloc: Global,
     clockwork: &mut Clockwork,

@@ -1,4 +1,4 @@
-//! Why a step of a transcript was not let through.
+//! Why a step of a transcript was rejected. Internal to the check: `follow` turns these into `ResumeErr`.
 
 ghost use Rattle.std.specs.Prelude.{◌≡◌, IfErr, None, OnOk, Option, Some, option_map};
 ghost use Rattle.cert_types.specs.declared.answer.Place.{Place};
@@ -11,10 +11,10 @@ use crate::prefix::ShownWhy;
 use cert_types::answer::{CertifyWhy, Place};
 use std::alloc::{AllocError, AllocFailed};
 
-/// Why a step was not let through.
+/// Why a step was rejected.
 #[derive(Clone, Copy, Debug, PartialEq, Eq)]
 pub(crate) enum StepErr {
-    /// It is not shown.
+    /// The step is not proved.
     Fault(ShownWhy),
     /// Memory ran out.
     NoMemory,
@@ -36,14 +36,14 @@ impl<T: Drop> From<AllocFailed<T>> for StepErr {
     }
 }
 
-/// What a step's answer is at fault in, at this place.
+/// Returns the error of an answer that is invalid at this place.
 pub(crate) fn not_valid(place: Place) -> StepErr
     ensures { result ≡ step_err (CertifyWhy.Rejected place) }
 {
     StepErr::Fault(ShownWhy::NotValid(place))
 }
 
-/// Why an answer was not let through.
+/// Returns the error of an answer that was rejected for this reason.
 pub(crate) fn why_of(why: CertifyWhy) -> StepErr
     ensures { result ≡ step_err why }
 {
@@ -53,7 +53,7 @@ pub(crate) fn why_of(why: CertifyWhy) -> StepErr
     }
 }
 
-/// What a fault or none comes to.
+/// Turns a fault into an error, and no fault into success.
 pub(crate) fn told(why: Option<ShownWhy>) -> Result<(), StepErr>
     ensures told { OnOk result (why ≡ None) }
     ensures why { IfErr result (λ e. IsStepFault e why) }
@@ -64,7 +64,7 @@ pub(crate) fn told(why: Option<ShownWhy>) -> Result<(), StepErr>
     }
 }
 
-// The fault of a log that begins with a wrong number.
+// Returns the first error of a log whose first line has a wrong number: line 1, unless an earlier place is invalid.
 fn or_first_line(place: Place) -> Place
     ensures { Some result ≡ or_first_line (Some place) }
 {
@@ -75,7 +75,7 @@ fn or_first_line(place: Place) -> Place
     }
 }
 
-/// Why a step with a log was not let through, by whether its log begins with the right number.
+/// Returns the error of a step with a log. If the log begins with a wrong number (`right` is false), the error moves to line 1.
 pub(crate) fn numbered(right: bool, e: StepErr) -> StepErr
     ensures { (fault : Option Place) → IsStepFault e (option_map NotValid fault) → IsStepFault result (option_map NotValid (numbered_fault right fault)) }
 {

@@ -1,4 +1,5 @@
-//! The steps of an auction, kept so that one that needed no query costs a few bytes.
+//! The steps of an auction, kept so that a step without a query takes a few bytes. `past` owns the list; `step_check` reads its
+//! lines.
 
 ghost use Rattle.std.specs.Prelude.{◌≡◌, ◌≤◌, ◌+◌, ◌++◌, ◌∷◌, [], IfOk, MatchOption, OnOk, length, option_map, slice_get, true, unwrap_or, ⊤};
 ghost use Rattle.std.specs.Vec.Iter.{into_iter_items};
@@ -12,18 +13,18 @@ use std::alloc::{AllocError as NoMemory, Global};
 use std::marker::Model;
 use std::vec::IntoIter;
 
-/// What shows a step.
+/// How a step was settled.
 #[derive(Clone, Copy, Debug, PartialEq, Eq)]
 pub enum Way {
-    /// A verdict of its own, by which its query was settled.
+    /// By a certificate of its own, which settled its query.
     Verdict,
-    /// The test of its station one round before.
+    /// By the test of its station one round before.
     LikeBefore,
-    /// That its station has no channel.
+    /// By its station having no channel.
     Bare,
 }
 
-/// A step without its verdict.
+/// A step without its certificate.
 #[derive(Clone, Copy, Debug, PartialEq, Eq)]
 pub struct StepLine {
     /// The round, from 1.
@@ -33,7 +34,7 @@ pub struct StepLine {
     pub way: Way,
 }
 
-/// The steps of an auction, in order. One that needed no query takes twelve bytes.
+/// The steps of an auction, in order. A step without a query takes twelve bytes.
 #[derive(Debug, Drop)]
 pub struct StepList {
     lines: Vec<StepLine>,
@@ -57,7 +58,7 @@ impl Model for StepList {
 }
 
 impl StepList {
-    /// No step.
+    /// Returns a list without steps.
     pub fn none(alloc: Global) -> StepList
         ensures steps { result.steps ≡ [] }
         ensures told { result.told ≡ [] }
@@ -68,22 +69,22 @@ impl StepList {
         }
     }
 
-    /// How many steps there are.
+    /// Returns the number of steps.
     pub fn len(&self) -> usize
         ensures { result ≡ length self.now.steps }
     {
         self.lines.len()
     }
 
-    /// How many verdicts there are among the steps.
+    /// Returns the number of verdicts: the steps that have a certificate of their own.
     pub fn told(&self) -> usize
         ensures { result ≡ length self.now.told }
     {
         self.told.len()
     }
 
-    /// The step at this place, from 0, without its verdict: when and of whom it was, and what shows it; none behind the last.
-    /// Where that is a station without a channel, it is the step's own.
+    /// Returns the step at this place, from 0, without its certificate: round, station and step kind. Returns `None` behind the
+    /// last step. A `Way::Bare` step is always settled by its own station.
     pub fn line(&self, place: usize) -> Option<StepLine>
         ensures line { result ≡ option_map step_line_of (slice_get self.now.steps place) }
         ensures names { MatchOption (slice_get self.now.steps place) ⊤ (λ x. names_only x.station x.shown ≡ true) }
@@ -94,7 +95,8 @@ impl StepList {
         }
     }
 
-    /// The fit at this place among the verdicts, counted from 1; none at 0, or where the verdict there is no fit.
+    /// Returns the fit at this place among the verdicts, counted from 1. Returns `None` at 0, behind the last verdict, or if the
+    /// verdict there is no fit.
     pub fn fit(&self, place: usize) -> Option<&ChannelMap>
         ensures { unwrap_or (option_map (λ m. m.now) result) [] ≡ fit_at self.now.told place }
     {
@@ -107,8 +109,11 @@ impl StepList {
         fit_of(shown)
     }
 
-    /// Makes room for so many steps more, of which one has a verdict. The only error is want of memory. Whatever it answers,
-    /// there is no less room than before, and nothing else is changed.
+    /// Reserves room for `more` further steps and for one verdict. Success or failure, no room is lost and nothing else changes.
+    ///
+    /// # Errors
+    ///
+    /// Fails only if memory runs out.
     pub fn reserve(&mut self, more: usize) -> Result<(), NoMemory>
         ensures room { OnOk result (more ≤ self.new.room) }
         ensures verdicts { OnOk result (1 ≤ self.new.verdicts) }
@@ -121,7 +126,7 @@ impl StepList {
         self.told.reserve(1)
     }
 
-    /// One step more, behind the others. It takes no memory.
+    /// Appends a step. Allocates nothing.
     pub fn push(&mut self, step: Step)
         requires names { names_only step.station step.shown ≡ true }
         requires room { 1 ≤ self.old.room }
@@ -147,7 +152,11 @@ impl StepList {
         self.told.push_reserved(shown);
     }
 
-    /// The steps in one list. The only error is want of memory.
+    /// Returns the steps in one list.
+    ///
+    /// # Errors
+    ///
+    /// Fails only if memory runs out.
     pub(crate) fn into_items(self, alloc: Global) -> Result<Items<Step>, NoMemory>
         ensures { IfOk result (λ steps. steps ≡ self.steps) }
     {
@@ -165,7 +174,7 @@ impl StepList {
     }
 }
 
-// How a step shown so is kept.
+// Returns the step kind of a step settled this way.
 fn way_of(shown: &Shown) -> Way
     ensures { result ≡ way_of shown.now }
 {
@@ -178,7 +187,7 @@ fn way_of(shown: &Shown) -> Way
     }
 }
 
-// The line has a verdict of its own.
+// Whether a step of this kind has a verdict of its own.
 fn takes_verdict(way: Way) -> bool
     ensures { result ≡ takes_verdict way }
 {
@@ -188,7 +197,7 @@ fn takes_verdict(way: Way) -> bool
     }
 }
 
-// The entries of a fit, if the step was shown by one.
+// Returns the entries of a fit, if the step was settled by one.
 fn fit_of(shown: &Shown) -> Option<&ChannelMap>
     ensures { option_map (λ m. m.now) result ≡ fit_of shown.now }
 {
@@ -198,7 +207,7 @@ fn fit_of(shown: &Shown) -> Option<&ChannelMap>
     }
 }
 
-// How the step of this line is shown. Its verdict, if it has one, is the first of these, and is taken out.
+// Returns how the step of this line was settled. Takes its verdict, if it has one, from the front of `told`.
 fn shown_by(line: &StepLine, told: &mut IntoIter<Shown>) -> Shown
     ensures shown { result ≡ shown_by line.now.way line.now.station (into_iter_items told.old) }
     ensures told { into_iter_items told.new ≡ told_behind line.now.way (into_iter_items told.old) }

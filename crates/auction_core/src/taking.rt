@@ -1,4 +1,4 @@
-//! What a posting does to the clock of an auction, and to the receipts that are noted on its standing query.
+//! What a posting does to the auction and to the pending receipts of its current query. `auction` calls `tell`.
 
 ghost use Rattle.std.specs.Prelude.{◌≡◌, ◌<◌, None, Some, false, if◌then◌else◌, length, true};
 ghost use Rattle.auction_core.specs.Auction.{IsReady, state_at};
@@ -13,7 +13,7 @@ use crate::posting::{Posting, Reply, Said};
 use crate::record::Shown;
 use cert_types::answer::{Answer, Receipt};
 
-/// What the posting is told: it is turned away, or its answer does what it does. It takes no memory.
+/// Returns the reply to a posting: the posting is turned away, or its answer takes effect. Allocates nothing.
 pub fn tell(clockwork: &mut Clockwork, notes: &mut Notes, posting: Posting) -> Reply
     requires ready { IsReady clockwork.old notes.old }
     requires said { MayBeTaken clockwork.old.scenario clockwork.old.book (state_at clockwork.old notes.old) posting }
@@ -36,7 +36,7 @@ pub fn tell(clockwork: &mut Clockwork, notes: &mut Notes, posting: Posting) -> R
     }
 }
 
-// Why a posting isn't looked at, if it isn't.
+// Returns why a posting is not read, or `None` if it is.
 fn turned_away(clockwork: &Clockwork, worker: u32, number: u64) -> Option<Reply>
     ensures { result ≡ turned_away clockwork.now.scenario clockwork.now.state worker number }
 {
@@ -53,7 +53,7 @@ fn turned_away(clockwork: &Clockwork, worker: u32, number: u64) -> Option<Reply>
     None
 }
 
-// What a valid answer does.
+// Applies a valid answer.
 fn accept(clockwork: &mut Clockwork, notes: &mut Notes, worker: u32, answer: Answer) -> Reply
     requires ready { IsReady clockwork.old notes.old }
     requires standing { has_ended clockwork.old.state ≡ false }
@@ -71,7 +71,7 @@ fn accept(clockwork: &mut Clockwork, notes: &mut Notes, worker: u32, answer: Ans
     }
 }
 
-// The standing query is settled so, and the receipts noted on it are let go.
+// Settles the current query and drops its pending receipts.
 fn advance(clockwork: &mut Clockwork, notes: &mut Notes, shown: Shown) -> Reply
     requires ready { clockwork.old.ready ≡ true }
     requires standing { has_ended clockwork.old.state ≡ false }
@@ -88,7 +88,7 @@ fn advance(clockwork: &mut Clockwork, notes: &mut Notes, shown: Shown) -> Reply
     }
 }
 
-// The number of the standing query, if one is left.
+// Returns the number of the current query, if one is left.
 fn next_number(clockwork: &Clockwork) -> Option<u64>
     ensures { result ≡ (if has_ended clockwork.now.state then None else Some clockwork.now.state.number) }
 {
@@ -98,7 +98,8 @@ fn next_number(clockwork: &Clockwork) -> Option<u64>
     Some(clockwork.number())
 }
 
-// What a valid receipt does: it stands noted already, it is the last worker's and settles the query, or it is noted.
+// Applies a valid receipt. The worker may have one pending already; the last worker's receipt settles the query; any other receipt
+// becomes pending.
 fn spend(clockwork: &mut Clockwork, notes: &mut Notes, worker: u32, receipt: Receipt) -> Reply
     requires ready { IsReady clockwork.old notes.old }
     requires standing { has_ended clockwork.old.state ≡ false }

@@ -1,24 +1,24 @@
-//! What a transcript says, as a value: reading its text makes one, and the check of a transcript takes one.
+//! A transcript as a value. The parser makes one from the text; `follow` checks it.
 
 use crate::record::{Shown, Step};
 use pack_defs::items::Items;
 use pack_defs::order::Order;
 
-/// A step of a transcript.
+/// A step of a transcript, with the line numbers of its logs.
 #[derive(Debug, Drop)]
 pub struct TranscriptStep {
     pub step: Step,
-    /// The number of the first line of each of the step's logs that are over the clauses of its test's set: of each
-    /// receipt, 0 where it has no line, or of the proof from outside. No other step has one. Which number is the
-    /// right one hangs on the steps before.
+    /// The number of the first line of each log in this step that extends the clauses of the test's set.
+    ///
+    /// An undecided step has one number for each receipt, 0 where the receipt has no log line. A step settled by a proof from
+    /// outside has one number. Every other step has none. The right number depends on the steps before, so the check compares it.
     pub firsts: Items<u64>,
 }
 
-/// What a transcript says: in which order it tests the stations of a round, how the start test was settled, and the
-/// steps after it.
+/// A transcript: the test order of a round, how the start test was settled, and the steps after it.
 #[derive(Debug, Drop)]
 pub struct Transcript {
-    /// The order of a round's tests, which is the version that the first line names.
+    /// The test order of a round: the version that the first line names.
     pub order: Order,
     pub start: Shown,
     pub steps: Items<TranscriptStep>,

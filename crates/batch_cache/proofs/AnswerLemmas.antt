@@ -1,4 +1,4 @@
--- What was found answers, and its entry moves to the front.
+-- The entry that was found answers, and becomes the first of its kind.
 use Rattle.std.proofs.Common.{◌≡◌, ℕ, Bool, List, Option, Some, None, refl, sym, ap, ◌∙◌, subst, find}
 use Rattle.std.specs.Prelude.{option_map}
 use Rattle.lru.specs.LruCache.{LruCache, lru_cache, IsValid as IsOrdered, promoted}
@@ -16,16 +16,16 @@ use Rattle.batch_cache.proofs.EntryLemmas.{promoted-first}
 use Rattle.batch_cache.proofs.NoneLaws.{fit-valid, refutation-valid}
 use Rattle.pack_defs.proofs.Words.{mapped-none}
 
--- what is made of something that was found
+-- A mapped option that has a value comes from one that has a value.
 mapped-some : {A B : Type 0} (f : A → B) (o : Option A) (y : B) → option_map f o ≡ Some y → (x : A) × (o ≡ Some x) × (y ≡ f x)
 mapped-some f None y h = cc
 mapped-some f (Some x) y h = (x, refl, cc)
 
--- a cache of these two
+-- The cache made of these two lists.
 abbrev pub view_of : LruCache Key (List (ℕ × ℕ)) → LruCache Key Refutation → CacheView
 view_of maps refutations = record { room = maps.cap; maps = maps.entries; refutations = refutations.entries }
 
--- ---- a put
+-- ---- `put`
 
 pub map-put : (self : CacheView) (maps new : LruCache Key (List (ℕ × ℕ))) (refutations : LruCache Key Refutation) (k : Key) (map : List (ℕ × ℕ)) → view_of maps refutations ≡ self → new ≡ lru_cache (first_kept maps.cap (k, map) maps.entries) maps.cap →
     view_of new refutations ≡ record self { maps = first_kept self.room (k, map) self.maps }
@@ -40,7 +40,7 @@ refutation-put self maps refutations new k refutation view same put =
     ∙ (ap (λ (n : ℕ). record (view_of maps refutations) { refutations = first_kept n (k, refutation) refutations.entries }) same
     ∙ ap (λ (v : CacheView). record v { refutations = first_kept v.room (k, refutation) v.refutations }) view)
 
--- ---- an answer
+-- ---- `answer` and `suggest`
 
 module _ (top : ℕ) (book : BookView) (task : Task) (worker : Worker) where
   pub found-fit-valid : (es : List (Key × List (ℕ × ℕ))) (found : FoundAnswer) → option_map (fit_found task) (find (gives_fit top book task worker) es) ≡ Some found → IsValid book task worker found.answer
@@ -53,7 +53,7 @@ module _ (top : ℕ) (book : BookView) (task : Task) (worker : Worker) where
       let (e, here, is) = mapped-some refutation_found (find (gives_refutation top book task worker) es) found h in
       subst (λ (f : FoundAnswer). IsValid book task worker f.answer) (sym is) (refutation-valid top book task worker es e here)
 
--- what was found by these tests, and stands first from then on
+-- The entry that was found by these tests is the first from then on.
 module _ (p : Key × List (ℕ × ℕ) → Bool) (q : Key × Refutation → Bool) (self : CacheView) (maps : LruCache Key (List (ℕ × ℕ))) (refutations : LruCache Key Refutation) (view : view_of maps refutations ≡ self) where
   pub map-moved : (made : Key × List (ℕ × ℕ) → FoundAnswer) → ((e : Key × List (ℕ × ℕ)) → (made e).key ≡ e.0) → (new : LruCache Key (List (ℕ × ℕ))) (found : FoundAnswer) → IsOrdered same_key maps → option_map made (find p maps.entries) ≡ Some found → new ≡ lru_cache (promoted (same_key found.key) maps.entries) maps.cap →
       view_of new refutations ≡ moved_by self (find p self.maps) (find q self.refutations)

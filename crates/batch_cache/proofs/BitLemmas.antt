@@ -9,7 +9,7 @@ use Rattle.pack_defs.specs.Lists.{is_in}
 use Rattle.batch_cache.specs.StationBits.{word_place, station_bit, with_bits, station_bits, are_covered}
 use Rattle.cert_types.proofs.SignatureLemmas.{Among, among-both, among-first, among-second, among-all, among-covers}
 
--- each bit of some words is one of those that a function gives
+-- Whether each bit of the words is one of those of the function.
 abbrev AreAmong : List ℕ → (ℕ → ℕ) → Type 0
 AreAmong words f = (w : ℕ) → Among (get_or words w 0) (f w)
 
@@ -19,7 +19,7 @@ word_in words w = get_or words w 0
 among-itself : (a : ℕ) → Among a a
 among-itself a = λ i. omega arith
 
--- ---- one word set
+-- ---- one word is set
 
 set-keeps : (words : List ℕ) (p x : ℕ) → Among (get_or words p 0) x → AreAmong words (word_in (set words p x))
 set-keeps [] p x h w = among-itself 0
@@ -37,7 +37,7 @@ set-within (y ∷ ys) (suc p) x f h k (suc w) = set-within ys p x (λ n. f (suc 
 
 -- ---- the bits of stations
 
--- the words with one station's bit too
+-- The words with one station's bit added.
 abbrev one_more : List ℕ → ℕ → List ℕ
 one_more words s = set words (word_place s) (bit_or (get_or words (word_place s) 0) (station_bit s))
 
@@ -50,7 +50,7 @@ bits-kept (s ∷ ss) words = λ w. among-both (get_or words w 0) (get_or (one_mo
 place-within : (s : ℕ) (words : List ℕ) → length words ≡ 16 → word_place s < length words
 place-within s words h = subst (λ (n : ℕ). word_place s < n) (sym h) (mod-lt (s / 64) {m = 16} (omega arith))
 
--- the bit of a station that they have is set
+-- The bit of a station that was added is set.
 bit-set : (words : List ℕ) (s : ℕ) → length words ≡ 16 → Among (station_bit s) (get_or (one_more words s) (word_place s) 0)
 bit-set words s h =
     let put : get_or (one_more words s) (word_place s) 0 ≡ bit_or (get_or words (word_place s) 0) (station_bit s)
@@ -68,7 +68,7 @@ has-bit (s ∷ ss) words t h there =
       | false ↦ λ e. has-bit ss (one_more words s) t long (ap (λ (b : Bool). b || is_in ss t) (sym e) ∙ there)
     ]) refl
 
--- the bits of stations that a set has are among the words of the set
+-- The bits of stations that a set has are among the set's words.
 bits-within : (xs ys words : List ℕ) → AreAmong words (word_in (station_bits xs)) → list_all (is_in xs) ys ≡ true → AreAmong (with_bits words ys) (word_in (station_bits xs))
 bits-within xs [] words h all = h
 bits-within xs (y ∷ ys) words h all =
@@ -88,7 +88,7 @@ words-covered (t ∷ ts) (w ∷ ws) h =
 covered-where_held : (xs ys : List ℕ) → list_all (is_in xs) ys ≡ true → are_covered (station_bits xs) (station_bits ys) ≡ true
 covered-where_held xs ys all = words-covered (station_bits xs) (station_bits ys) (bits-within xs ys (replicate 16 0) (bits-kept xs (replicate 16 0)) all)
 
--- where the bits are not among a set's, it doesn't hold the stations
+-- If the bits are not among a set's, the set does not contain the stations.
 pub not-held : (xs ys bits others : List ℕ) → bits ≡ station_bits xs → others ≡ station_bits ys → are_covered bits others ≡ false → list_all (is_in xs) ys ≡ false
 not-held xs ys bits others these those none =
     (elim (list_all (is_in xs) ys) as (λ b. list_all (is_in xs) ys ≡ b → list_all (is_in xs) ys ≡ false) [

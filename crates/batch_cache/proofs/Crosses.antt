@@ -1,4 +1,4 @@
--- A cache may go to any thread, and so many threads may share one under a lock.
+-- A cache may move to any thread, so many threads may share one behind a lock.
 use denote.Param.Send.{IsSend, IsSync, sendable}
 use Rattle.std.proofs.Crossing.{crosses}
 use Rattle.std.proofs.MapsCrossing.{crosses as maps}
@@ -33,6 +33,6 @@ kept-send = search (set-send, crosses, sendable) depth 30
 pub cache-send : IsSend Cache.the_row
 cache-send = search (key-send, key-sync, map-send, kept-send, list_send, deed_send, key_ref_send, maps, crosses, sendable) depth 60 fits 100000
 
--- many threads may share a cache under a lock
+-- Many threads may share a cache behind a lock.
 pub mutex_cache-sync : IsSync (Mutex.the_row Cache.the_row)
 mutex_cache-sync = search (cache-send, crosses, sendable) depth 30

@@ -1,4 +1,4 @@
--- What `lru` says of its entries, in the words of the cache.
+-- The contracts of `lru`, in the words of the cache.
 use Rattle.std.proofs.Common.{◌≡◌, ℕ, zero, suc, ◌-◌, ◌<◌, ◌≤◌, Bool, true, false, ◌==◌, List, [], ◌∷◌, length, take, Some, None, refl, sym, ap, ◌∙◌, subst, arith, eq-eqb, eqb-true, find}
 use Rattle.std.specs.List.{AllByRecursion, IsDistinct}
 use Rattle.std.specs.Map.{keys_of, lookup_entry, remove_entry}
@@ -43,7 +43,7 @@ not-same k l h = (elim (same_key k l) as (λ b. same_key k l ≡ b → same_key 
 -- ---- entries
 
 module _ {V : Type 0} where
-  -- no entry of the key: nothing goes
+  -- No entry has the key: none is removed.
   none-goes : (es : List (Key × V)) (k : Key) → AllByRecursion (λ l. same_key k l ≡ false) (keys_of es) → without_key k es ≡ es
   none-goes [] k h = refl
   none-goes (e ∷ es) k h = rw (h.0) (ap (λ (fs : List (Key × V)). e ∷ fs) (none-goes es k h.1))
@@ -55,7 +55,7 @@ module _ {V : Type 0} where
     | false ↦ λ t. rw t (ap (λ (fs : List (Key × V)). e ∷ fs) (missing-goes es k (rw t at h)))
   ]) refl
 
-  -- of different keys the first of the key is the only one
+  -- If the keys differ, the first entry with the key is the only one.
   first-goes : (es : List (Key × V)) (k : Key) → IsDistinct same_key (keys_of es) → remove_entry (same_key k) es ≡ without_key k es
   first-goes [] k d = refl
   first-goes (e ∷ es) k d = (elim (same_key k e.0) as (λ b. same_key k e.0 ≡ b → remove_entry (same_key k) (e ∷ es) ≡ without_key k (e ∷ es)) [
@@ -84,7 +84,7 @@ module _ {V : Type 0} where
       let less : suc n - 1 ≡ n = omega arith in
       ap (λ (m : ℕ). (k, v) ∷ take m es) less ∙ ap (λ (fs : List (Key × V)). (k, v) ∷ take n fs) (sym none)
 
-  -- a put is the entry first, and of the others as many as there is room for
+  -- A put makes the entry the first, and keeps as many of the others as there is room for.
   pub put-first : (es : List (Key × V)) (room : ℕ) (k : Key) (v : V) → IsValid same_key (lru_cache es room) → put_entries same_key (lru_cache es room) k v ≡ first_kept room (k, v) es
   put-first es room k v valid = (elim (lookup_entry (same_key k) es) as (λ o. lookup_entry (same_key k) es ≡ o → option_map_or (λ e. (e.0, v) ∷ remove_entry (same_key k) es) o ((k, v) ∷ take (room - 1) es) ≡ first_kept room (k, v) es) [
     | None ↦ λ h. some-room es room k v valid.2 (missing-goes es k h)
@@ -96,13 +96,13 @@ module _ {V : Type 0} where
         ∙ ap (λ (fs : List (Key × V)). take room ((k, v) ∷ fs)) (first-goes es k valid.0))
   ]) refl
 
-  -- the same of the whole cache, whose key and value are equal to these
+  -- The same for a complete cache whose key and value equal these.
   pub put-cache : (old new : LruCache Key V) (k l : Key) (v w : V) → IsValid same_key old → new ≡ lru_cache (put_entries same_key old k v) old.cap → k ≡ l → v ≡ w → new ≡ lru_cache (first_kept old.cap (l, w) old.entries) old.cap
   put-cache old new k l v w valid is key value =
       is ∙ (ap (λ (es : List (Key × V)). lru_cache es old.cap) (put-first old.entries old.cap k v valid)
       ∙ (λ i. lru_cache (first_kept old.cap (key i, value i) old.entries) old.cap))
 
-  -- what holds of each key holds of that of an entry that is found
+  -- What holds of each key holds of the key of an entry that is found.
   at-found : (P : Key → Type 0) (p : Key × V → Bool) (es : List (Key × V)) (e : Key × V) → find p es ≡ Some e → AllByRecursion P (keys_of es) → P e.0
   at-found P p [] e h all = cc
   at-found P p (f ∷ es) e h all = (elim (p f) as (λ b. p f ≡ b → P e.0) [
@@ -110,7 +110,7 @@ module _ {V : Type 0} where
     | false ↦ λ t. at-found P p es e (rw t at h) all.1
   ]) refl
 
-  -- of different keys an entry that is found is looked up by its key
+  -- If the keys differ, an entry that is found is looked up by its key.
   looked-up : (p : Key × V → Bool) (es : List (Key × V)) (e : Key × V) → IsDistinct same_key (keys_of es) → find p es ≡ Some e → lookup_entry (same_key e.0) es ≡ Some e
   looked-up p [] e d h = cc
   looked-up p (f ∷ es) e d h = (elim (p f) as (λ b. p f ≡ b → lookup_entry (same_key e.0) (f ∷ es) ≡ Some e) [
@@ -123,6 +123,6 @@ module _ {V : Type 0} where
         rw other (looked-up p es e (IsDistinct-tail same_key f.0 (keys_of es) d) later)
   ]) refl
 
-  -- a promotion of an entry that was found puts it first
+  -- Promoting an entry that was found makes it the first.
   pub promoted-first : (p : Key × V → Bool) (es : List (Key × V)) (e : Key × V) → IsDistinct same_key (keys_of es) → find p es ≡ Some e → promoted (same_key e.0) es ≡ to_front e es
   promoted-first p es e d h = rw (looked-up p es e d h) (ap (λ (fs : List (Key × V)). e ∷ fs) (first-goes es e.0 d))

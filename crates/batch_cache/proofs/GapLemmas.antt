@@ -1,4 +1,4 @@
--- A list that ascends hasn't a number that would fill a gap of it.
+-- A list that ascends lacks a number that would fill a gap of it.
 use Rattle.std.proofs.Common.{◌≡◌, ℕ, zero, suc, ◌<◌, Bool, true, false, ◌||◌, ◌&&◌, nat_lt, List, [], ◌∷◌, refl, ap, ◌∙◌, ltb-true, lt_trans}
 use Rattle.std.specs.Prelude.{slice_get}
 use Rattle.std.specs.List.{list_all}
@@ -9,7 +9,7 @@ use Rattle.pack_defs.proofs.Words.{ascending-rest}
 use Rattle.batch_cache.specs.Gaps.{last_below, goes_on_above, ends_below, has_gap, lacks_at}
 use Rattle.batch_cache.proofs.WalkLemmas.{below-first, not-same}
 
--- the first number is below one that a later number is below
+-- The first number is below one that a later number is below.
 first-below : (x : ℕ) (xs : List ℕ) (p n : ℕ) → is_ascending (x ∷ xs) ≡ true → last_below (slice_get (x ∷ xs) p) n ≡ true → x < n
 first-below x xs zero n up h = ltb-true x n h
 first-below x [] (suc p) n up h = cc
@@ -33,7 +33,7 @@ gap-tells xs p n up gap =
     let parts = and_parts (goes_on_above xs p n) (ends_below xs p n) gap in
     missing xs p n up parts.0 parts.1
 
--- who lacks one of some numbers hasn't all of them
+-- A list that lacks one of some numbers does not have them all.
 pub lacks-one : (xs ys : List ℕ) (place : ℕ) → lacks_at xs ys place ≡ true → list_all (is_in xs) ys ≡ false
 lacks-one xs [] place h = cc
 lacks-one xs (y ∷ ys) zero h = ap (λ (b : Bool). b && list_all (is_in xs) ys) (not-true (is_in xs y) h)

@@ -1,4 +1,4 @@
--- An entry that the search passes over gives no answer.
+-- An entry that the search skips leads to no answer.
 use Rattle.std.proofs.Common.{◌≡◌, ℕ, Bool, true, false, ◌&&◌, ◌==◌, List, [], ◌∷◌, length, filter, take, ◌≤◌, nat_le, nat_lt, Option, Some, refl, sym, ap, ◌∙◌, subst, cond, find}
 use Rattle.std.specs.Prelude.{is_none}
 use Rattle.std.specs.List.{list_all}
@@ -21,7 +21,7 @@ use Rattle.batch_cache.specs.declared.key.Key.{Key}
 use Rattle.batch_cache.specs.Answering.{gives_refutation, is_valid}
 use Rattle.batch_cache.specs.Looks.{learns_within, may_answer}
 
--- what is at no fault passes the test, and the rest finds none
+-- An answer without an error passes the first test, and the other tests find no error.
 passed : (b : Bool) (place : Place) (rest : Option Place) → is_none (unless b place rest) ≡ true → (b ≡ true) × (is_none rest ≡ true)
 passed true place rest h = (refl, h)
 passed false place rest h = cc
@@ -41,7 +41,7 @@ valid-may book task worker (Dead p) h =
     let both = and_parts (is_in task.set p.f) (is_in task.set p.g) stations.0 in
     and_from (is_in task.set p.f) (list_all (is_in task.set) (p.g ∷ [])) both.0 (and_from (is_in task.set p.g) true both.1 refl)
 
--- a refutation that a look passes over is not valid
+-- A refutation that the fast test rejects is not valid.
 may-not : (book : BookView) (task : Task) (worker : Worker) (refutation : Refutation) → may_answer task.set worker refutation ≡ false → is_valid book task worker (Refuted refutation) ≡ false
 may-not book task worker refutation none =
     (elim (is_valid book task worker (Refuted refutation)) as (λ b. is_valid book task worker (Refuted refutation) ≡ b → is_valid book task worker (Refuted refutation) ≡ false) [
@@ -49,17 +49,17 @@ may-not book task worker refutation none =
       | false ↦ λ e. e
     ]) refl
 
--- ---- a part of a map
+-- ---- a restricted map
 
--- what was taken of a map by a test ascends, as the map does
+-- What a test keeps of a map ascends, as the map does.
 pub taken-ascends : (p : ℕ × ℕ → Bool) (whole xs entries ys : List (ℕ × ℕ)) (i : ℕ) → xs ≡ whole → length xs ≤ i → IsAscending whole → entries ≡ filter p (take i whole) → ys ≡ entries → IsAscending ys
 taken-ascends p whole xs entries ys i same all up taken is =
     let here : ys ≡ filter p whole = is ∙ (taken ∙ ap (filter p) (take_all i whole (subst (λ (zs : List (ℕ × ℕ)). length zs ≤ i) same all))) in
     subst IsAscending (sym here) (kept-ascends p whole up)
 
--- ---- a refutation that is passed over
+-- ---- a refutation that is skipped
 
--- the entries behind it decide as all did
+-- The entries after it decide as all did.
 pub passed-over : (top : ℕ) (book : BookView) (task : Task) (worker : Worker) (asked : List ℕ) (key : Key) (refutation : Refutation) (all now rest : List (Key × Refutation)) →
     asked ≡ task.set → may_answer asked worker refutation ≡ false → find (gives_refutation top book task worker) all ≡ find (gives_refutation top book task worker) now → now ≡ (key, refutation) ∷ rest →
     find (gives_refutation top book task worker) all ≡ find (gives_refutation top book task worker) rest

@@ -1,4 +1,4 @@
--- No answer is given exactly where no kept one is valid, and what is given is valid.
+-- There is no answer exactly if no entry is valid, and every answer is valid.
 use Rattle.std.proofs.Common.{◌≡◌, ℕ, Bool, true, false, ◌&&◌, ◌==◌, inl, inr, List, [], ◌∷◌, Option, Some, None, refl, sym, ap, ◌∙◌, subst, find, Contains, eq-eqb, eqb-true}
 use Rattle.std.specs.Prelude.{is_none}
 use Rattle.std.specs.List.{list_all}
@@ -49,7 +49,7 @@ pub passes-valid : (o : Option Place) → is_none o ≡ true → o ≡ None
 passes-valid None h = refl
 passes-valid (Some place) h = cc
 
--- no answer: neither was found
+-- No answer: neither entry was found.
 neither : (task : Task) (m : Option (Key × List (ℕ × ℕ))) (r : Option (Key × Refutation)) → found_answer task m r ≡ None → (m ≡ None) × (r ≡ None)
 neither task None None h = (refl, refl)
 neither task None (Some e) h = cc
@@ -88,7 +88,7 @@ module _ (top : ℕ) (book : BookView) (task : Task) (worker : Worker) where
       (λ e there passes. let parts = refutation-parts e passes in none.refutations e there parts.0 parts.1) in
       rw (m, r) refl
 
-  -- what is found is valid
+  -- The entry that is found is valid.
   pub fit-valid : (es : List (Key × List (ℕ × ℕ))) (e : Key × List (ℕ × ℕ)) → find (gives_fit top book task worker) es ≡ Some e → IsValid book task worker (Fit (part_on task.set e.1))
   fit-valid es e h = (fit-parts e (found-passes (gives_fit top book task worker) es e h)).2
 

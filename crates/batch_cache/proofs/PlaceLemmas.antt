@@ -1,4 +1,4 @@
--- What stands at a place of a list is in it, and where the stations of entries ascend, a station has no other channel.
+-- An element at a place of a list is in the list; if the stations of entries ascend, a station has only one channel.
 use Rattle.std.proofs.Common.{◌≡◌, ℕ, zero, suc, Bool, true, false, ◌||◌, ◌==◌, List, [], ◌∷◌, Some, refl, sym, ap, ◌∙◌, arith, eqb-true}
 use Rattle.std.specs.Prelude.{slice_get}
 use Rattle.std.proofs.lemmas.Bool.Decides.{nat_tests}
@@ -27,7 +27,7 @@ entry-stands (e ∷ es) zero x h =
     ap (λ (y : ℕ × ℕ). same_entry y x || has_entry es x) same ∙ ap (λ (b : Bool). b || has_entry es x) (same_entry-itself x)
 entry-stands (e ∷ es) (suc p) x h = ap (λ (b : Bool). same_entry e x || b) (entry-stands es p x h) ∙ or-true (same_entry e x)
 
--- the channel at the station's place tells whether the map has its entry
+-- The channel at the station's place decides whether the map has its entry.
 pub channel-tells : (es : List (ℕ × ℕ)) (p s c d : ℕ) → IsAscending es → slice_get es p ≡ Some (s, d) → (d == c) ≡ has_entry es (s, c)
 channel-tells es p s c d up h =
     let there = entry-stands es p (s, d) h in

@@ -1,4 +1,4 @@
--- What gives an answer is suggested: where nothing is, none is given.
+-- An entry that answers is suggested: without a suggestion there is no answer.
 use Rattle.std.proofs.Common.{◌≡◌, ℕ, Bool, true, false, ◌==◌, List, [], ◌∷◌, Option, Some, None, refl, find}
 use Rattle.std.proofs.lemmas.Bool.{and_parts, and_from}
 use Rattle.pack_defs.specs.Book.{BookView}
@@ -13,7 +13,7 @@ use Rattle.batch_cache.specs.Looks.{may_answer}
 use Rattle.batch_cache.specs.Suggesting.{found_suggestion, holding_map, holds_task, likely_refutation, may_refute, suggested_answer}
 use Rattle.batch_cache.proofs.LookLemmas.{valid-may}
 
--- where a test finds none, neither does one that fewer pass
+-- If a test finds nothing, a stricter test finds nothing.
 fewer-found : {A : Type 0} (p q : A → Bool) (es : List A) → ((e : A) → q e ≡ true → p e ≡ true) → find p es ≡ None → find q es ≡ None
 fewer-found p q [] fewer h = refl
 fewer-found p q (e ∷ es) fewer h = (elim (q e) as (λ b. q e ≡ b → find q (e ∷ es) ≡ None) [
@@ -24,7 +24,7 @@ fewer-found p q (e ∷ es) fewer h = (elim (q e) as (λ b. q e ≡ b → find q 
   ]) refl
 ]) refl
 
--- no suggestion: neither was found
+-- No suggestion: neither entry was found.
 neither : (task : Task) (m : Option (Key × List (ℕ × ℕ))) (r : Option (Key × Refutation)) → found_suggestion task m r ≡ None → (m ≡ None) × (r ≡ None)
 neither task None None h = (refl, refl)
 neither task None (Some e) h = cc

@@ -1,4 +1,4 @@
--- A walk along two lists that ascend finds each number of the second one exactly where the first has it.
+-- A walk along two ascending lists finds each number of the second exactly if the first has them all.
 use Rattle.std.proofs.Common.{◌≡◌, ℕ, zero, suc, ◌<◌, ◌≤◌, Bool, true, false, ◌&&◌, ◌||◌, ◌==◌, nat_eq, nat_lt, cond, List, [], ◌∷◌, length, drop, refl, sym, ap, ◌∙◌, subst, arith, ltb-true, lt_trans, eqb-true}
 use Rattle.std.specs.List.{list_all}
 use Rattle.std.proofs.lemmas.Bool.{and_parts, and_from}
@@ -15,14 +15,14 @@ not-same x y h = grind (arith, nat_tests)
 not-same-back : (x y : ℕ) → y < x → (x == y) ≡ false
 not-same-back x y h = grind (arith, nat_tests)
 
--- an ascending list has no number below its first
+-- An ascending list has no number below its first.
 pub below-first : (x : ℕ) (xs : List ℕ) (y : ℕ) → is_ascending (x ∷ xs) ≡ true → y < x → is_in (x ∷ xs) y ≡ false
 below-first x [] y h less = ap (λ (b : Bool). b || false) (not-same-back x y less)
 below-first x (z ∷ zs) y h less =
     let parts = and_parts (nat_lt x z) (is_ascending (z ∷ zs)) h in
     ap (λ (b : Bool). b || is_in (z ∷ zs) y) (not-same-back x y less) ∙ below-first z zs y parts.1 (lt_trans less (ltb-true x z parts.0))
 
--- numbers above one are sought behind it
+-- Numbers above the first are found after it.
 above-first : (x : ℕ) (xs ys : List ℕ) → is_ascending (x ∷ ys) ≡ true → list_all (is_in (x ∷ xs)) ys ≡ list_all (is_in xs) ys
 above-first x xs [] h = refl
 above-first x xs (y ∷ ys) h =
@@ -30,7 +30,7 @@ above-first x xs (y ∷ ys) h =
     ap (λ (b : Bool). (b || is_in xs y) && list_all (is_in (x ∷ xs)) ys) (not-same x y (ltb-true x y parts.0))
     ∙ ap (λ (b : Bool). is_in xs y && b) (above-first x xs ys (ascending-skip x y ys h))
 
--- the walk finds all exactly where the first list has all
+-- The walk finds all exactly if the first list has all.
 walk-tells : (xs ys : List ℕ) → is_ascending xs ≡ true → is_ascending ys ≡ true → finds_all xs ys ≡ list_all (is_in xs) ys
 walk-tells [] [] hx hy = refl
 walk-tells [] (y ∷ ys) hx hy = refl
@@ -53,13 +53,13 @@ walk-tells (x ∷ xs) (y ∷ ys) hx hy =
       ]) refl
     ]) refl
 
--- so too of the lists behind two models
+-- The same for the lists behind two models.
 pub told : (xs ys inside others : List ℕ) (a b : Bool) → inside ≡ xs → others ≡ ys → a ≡ is_ascending inside → b ≡ is_ascending others → a ≡ true → b ≡ true → finds_all inside others ≡ list_all (is_in xs) ys
 told xs ys inside others a b these those up also h k =
     walk-tells inside others (sym up ∙ h) (sym also ∙ k)
     ∙ (ap (λ (zs : List ℕ). list_all (is_in zs) others) these ∙ ap (list_all (is_in xs)) those)
 
--- a longer list is not found
+-- A longer list is not found.
 pub longer-not-found : (xs ys : List ℕ) → length xs < length ys → finds_all xs ys ≡ false
 longer-not-found [] [] h = absurd (omega arith)
 longer-not-found [] (y ∷ ys) h = refl
@@ -73,7 +73,7 @@ longer-not-found (x ∷ xs) (y ∷ ys) h =
       ]
     ]
 
--- ---- where a walk ends
+-- ---- the end of a walk
 
 none-sought : (xs : List ℕ) → finds_all xs [] ≡ true
 none-sought [] = refl

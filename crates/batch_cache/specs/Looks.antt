@@ -1,4 +1,4 @@
--- What the search looks at before it makes an answer.
+-- The tests that a search makes before it checks an answer.
 use Rattle.std.specs.Prelude.{ℕ, Bool, true, ◌&&◌, nat_le, nat_lt, cond, List, [], ◌∷◌, length, Option, Some, None}
 use Rattle.std.specs.List.{list_all}
 use Rattle.pack_defs.specs.Book.{BookView}
@@ -15,31 +15,32 @@ use Rattle.batch_cache.specs.declared.key.Key.{Key}
 use Rattle.batch_cache.specs.declared.search.FoundAnswer.{FoundAnswer}
 use Rattle.batch_cache.specs.Answering.{is_valid, part_on}
 
--- the stations that a refutation names
+-- The stations that a refutation names.
 abbrev pub named_stations : Refutation → List ℕ
 named_stations (Proof subset log) = subset
 named_stations (Dead p) = p.f ∷ p.g ∷ []
 
--- the worker learns lines, and has these in its budget
+-- Whether the worker learns lines, and its budget covers these.
 abbrev pub learns_within : Worker → List Line → Bool
 learns_within worker lines = learns worker.kind && (nat_lt 0 (length lines) && nat_le (length lines) worker.budget)
 
--- it may be a refutation of this worker
+-- Whether the worker may answer with the refutation.
 abbrev pub may_be_of : Worker → Refutation → Bool
 may_be_of worker (Proof subset log) = learns_within worker log.lines
 may_be_of worker (Dead p) = true
 
--- it may be a valid one for this set
+-- Whether the refutation may be valid for this set and worker.
 abbrev pub may_answer : List ℕ → Worker → Refutation → Bool
 may_answer set worker refutation = may_be_of worker refutation && list_all (is_in set) (named_stations refutation)
 
--- the answer, if it is valid
+-- The answer, if it is valid.
 abbrev pub when_valid : BookView → Task → Worker → Answer → Option Answer
 when_valid book task worker answer = cond (is_valid book task worker answer) (Some answer) None
 
--- what is found where this entry answers
+-- The result of a search, if this map answers.
 abbrev pub fit_found : Task → Key × List (ℕ × ℕ) → FoundAnswer
 fit_found task e = record { key = e.0; answer = Fit (part_on task.set e.1) }
 
+-- The result of a search, if this refutation answers.
 abbrev pub refutation_found : Key × Refutation → FoundAnswer
 refutation_found e = record { key = e.0; answer = Refuted e.1 }

@@ -1,4 +1,4 @@
--- That no kept answer is valid, in plain statements.
+-- That no entry leads to a valid answer, in plain statements.
 use Rattle.std.specs.Prelude.{ℕ, ◌≡◌, List, Contains, true}
 use Rattle.std.specs.List.{list_all}
 use Rattle.pack_defs.specs.Book.{BookView}
@@ -12,7 +12,8 @@ use Rattle.batch_cache.specs.declared.key.Key.{Key}
 use Rattle.batch_cache.specs.Answering.{part_on}
 use Rattle.batch_cache.specs.Kept.{CacheView}
 
--- each map of the top channel whose set holds the task's leaves no valid fit, and no refutation of the top channel is valid
+-- Whether no map of the top channel whose set contains the task's leads to a valid fit, and no refutation of the top
+-- channel is valid.
 pub record IsNoneKept (view : CacheView) (top : ℕ) (book : BookView) (task : Task) (worker : Worker) : Type 0 where
   pub maps : (e : Key × List (ℕ × ℕ)) → Contains view.maps e → e.0.top ≡ top → list_all (is_in e.0.set) task.set ≡ true →
       IsValid book task worker (Fit (part_on task.set e.1)) → ⊥

@@ -1,5 +1,5 @@
--- What a cache suggests to a task, and what is left of its order. It is this project's: what is looked for is containment alone,
--- and whether a suggestion is valid is for its reader to have checked. Where none is made, nothing that is kept is valid.
+-- The suggestion of a cache for a task, and the order of its entries afterwards. This is the project's own: only
+-- containment is tested, and the caller checks the suggestion. If there is none, no entry is valid.
 use Rattle.std.specs.Prelude.{ℕ, Bool, not, ◌&&◌, ◌==◌, List, filter, find, Option, Some, None, option_map}
 use Rattle.std.specs.List.{list_all}
 use Rattle.pack_defs.specs.Lists.{has_entry, is_in}
@@ -14,41 +14,43 @@ use Rattle.batch_cache.specs.Answering.{moved_by}
 use Rattle.batch_cache.specs.Kept.{CacheView}
 use Rattle.batch_cache.specs.Looks.{may_answer}
 
--- the last map lacks the entry, and its station is of the set
+-- Whether the entry's station is in the set and the last map lacks the entry.
 abbrev pub is_change : List ℕ → List (ℕ × ℕ) → ℕ × ℕ → Bool
 is_change set last x = not (has_entry last x) && is_in set x.0
 
--- the channels that a map gives stations of a set otherwise than the last map does
+-- The channels in which a map differs from the last map on the stations of a set.
 abbrev pub changes_on : List ℕ → List (ℕ × ℕ) → List (ℕ × ℕ) → List (ℕ × ℕ)
 changes_on set last entries = filter (is_change set last) entries
 
--- a kept map is of this top channel, and its set holds the task's
+-- Whether a map is of this top channel and its set contains the task's.
 abbrev pub holds_task : ℕ → Task → Key × List (ℕ × ℕ) → Bool
 holds_task top task e = (e.0.top == top) && list_all (is_in e.0.set) task.set
 
--- a kept refutation is of this top channel, and may be valid by its stations, its number of lines and the worker
+-- Whether a refutation is of this top channel and may be valid, by its stations, its number of lines and the worker.
 abbrev pub may_refute : ℕ → Task → Worker → Key × Refutation → Bool
 may_refute top task worker e = (e.0.top == top) && may_answer task.set worker e.1
 
--- the most recently used map whose set holds the task's; the most recently used refutation that may be valid
+-- The most recently used map whose set contains the task's.
 abbrev pub holding_map : CacheView → ℕ → Task → Option (Key × List (ℕ × ℕ))
 holding_map view top task = find (holds_task top task) view.maps
 
+-- The most recently used refutation that may be valid.
 abbrev pub likely_refutation : CacheView → ℕ → Task → Worker → Option (Key × Refutation)
 likely_refutation view top task worker = find (may_refute top task worker) view.refutations
 
--- what is suggested where these two were found: the changes of the map, or else the refutation
+-- The suggestion, given these two entries: the changes of the map, or else the refutation.
 abbrev pub found_suggestion : Task → Option (Key × List (ℕ × ℕ)) → Option (Key × Refutation) → Option Answer
 found_suggestion task (Some e) refutation = Some (Fit (changes_on task.set task.last e.1))
 found_suggestion task None refutation = option_map (λ e. Refuted e.1) refutation
 
+-- The suggestion of the cache.
 abbrev pub suggested_answer : CacheView → ℕ → Task → Worker → Option Answer
 suggested_answer view top task worker = found_suggestion task (holding_map view top task) (likely_refutation view top task worker)
 
--- the cache then: the one that is suggested stands first, and nothing else moves
+-- The cache after its suggestion: the entry becomes the first of its kind.
 abbrev pub after_suggested : CacheView → ℕ → Task → Worker → CacheView
 after_suggested view top task worker = moved_by view (holding_map view top task) (likely_refutation view top task worker)
 
--- what is found where this map is suggested
+-- The result of a search, if this map is suggested.
 abbrev pub changes_found : Task → Key × List (ℕ × ℕ) → FoundAnswer
 changes_found task e = record { key = e.0; answer = Fit (changes_on task.set task.last e.1) }

@@ -1,7 +1,7 @@
--- A walk along two lists, by which of two that ascend one is told to have all of the other.
+-- A walk along two lists. If both ascend, it shows whether one contains the other.
 use Rattle.std.specs.Prelude.{ℕ, Bool, true, false, ◌==◌, nat_lt, cond, List, [], ◌∷◌}
 
--- it finds each number of the second list in the first
+-- Whether the walk finds each number of the second list in the first.
 abbrev pub finds_all : List ℕ → List ℕ → Bool
 finds_all [] [] = true
 finds_all [] (y ∷ ys) = false

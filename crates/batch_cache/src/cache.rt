@@ -1,4 +1,4 @@
-//! The cache.
+//! The cache and its calls.
 
 ghost use Rattle.std.specs.Prelude.{◌≡◌, ◌≤◌, [], IfOk, IfSome, OnErr, OnOk, length};
 ghost use Rattle.lru.specs.LruCache.{IsValid as IsOrdered, lru_cache, promoted};
@@ -23,8 +23,8 @@ use std::alloc::{AllocError as NoMemory, Global};
 use std::marker::Model;
 use std::num::NonZeroUsize;
 
-/// Channel maps that fit, and refutations, that many auctions share: at most so many of each as there is room for, in the
-/// order of their last use.
+/// Channel maps that fit, and refutations, shared by many auctions: at most `room` of each, in the order of their
+/// last use.
 #[derive(Drop)]
 pub struct Cache {
     maps: LruCache<Key, ChannelMap>,
@@ -43,7 +43,7 @@ impl Model for Cache {
 }
 
 impl Cache {
-    /// An empty cache with room for so many maps and as many refutations. The only error is want of memory.
+    /// Returns an empty cache with room for `room` maps and as many refutations. Fails only if memory runs out.
     pub fn make(alloc: Global, room: u32) -> Result<Cache, NoMemory>
         requires { 1 ≤ room }
         ensures { IfOk result (λ cache. cache ≡ record { room = room; maps = []; refutations = [] }) }
@@ -57,8 +57,7 @@ impl Cache {
         })
     }
 
-    /// It keeps at most as many maps, and as many refutations, as there is room for. The call is made for this promise alone, and
-    /// does nothing.
+    /// Proves that the cache keeps at most as many maps, and as many refutations, as there is room for. Does nothing.
     pub fn keeps_to_its_room(&self)
         ensures maps { length self.now.maps ≤ self.now.room }
         ensures refutations { length self.now.refutations ≤ self.now.room }
@@ -67,13 +66,13 @@ impl Cache {
         keeps_keys_and_room(&self.refutations);
     }
 
-    /// Keeps what answers a task under a top channel and the task's set: of a fit the channel map that it leaves, and of a
-    /// refutation a copy. It stands first of its kind, in the place of what was kept under the same key; where there are more
-    /// than there is room for, the one that was used least recently goes. A spent budget is not kept.
+    /// Stores the answer to a task under a top channel and the task's set. Of a fit, the channel map that it leads to
+    /// is stored; of a refutation, a copy. The entry becomes the first of its kind and replaces the entry with the
+    /// same key. If there is no room, the least recently used entry is dropped. A spent budget is not stored.
     ///
     /// # Errors
     ///
-    /// Memory ran out. The cache stands as it was.
+    /// Fails only if memory runs out, and then the cache is unchanged.
     pub fn put(
         &mut self,
         alloc: Global,
@@ -91,7 +90,7 @@ impl Cache {
         }
     }
 
-    // Keeps the map that a fit leaves.
+    // Stores the map that a fit leads to.
     fn put_map(
         &mut self,
         alloc: Global,
@@ -111,7 +110,7 @@ impl Cache {
         }
     }
 
-    // Keeps a copy of a refutation.
+    // Stores a copy of a refutation.
     fn put_refutation(
         &mut self,
         alloc: Global,
@@ -131,14 +130,17 @@ impl Cache {
         }
     }
 
-    /// An answer to a task under a top channel, if a kept one gives it: of the most recently used map of this top whose set
-    /// holds the task's and whose part on the task's set is a valid fit, that part; else of the most recently used refutation
-    /// of this top that is valid, a copy. It is valid for this book, task and worker, and none is given exactly where no kept
-    /// one gives a valid answer. What answers stands first of its kind from then on.
+    /// Returns an answer to a task under a top channel that is valid for this book, task and worker. Returns `None`
+    /// exactly if no entry leads to one.
+    ///
+    /// Maps come first, the most recently used before the others. A map answers if it has this top, its set contains
+    /// the task's, and its restriction to the task's set is a valid fit. The answer is this restriction. If no map
+    /// answers, the most recently used refutation of this top that is valid does; the answer is a copy. The entry
+    /// that answers becomes the first of its kind.
     ///
     /// # Errors
     ///
-    /// Memory ran out. The cache stands as it was.
+    /// Fails only if memory runs out, and then the cache is unchanged.
     pub fn answer(
         &mut self,
         alloc: Global,
@@ -175,15 +177,17 @@ impl Cache {
         Ok(None)
     }
 
-    /// What may answer a task under a top channel: of the most recently used map of this top whose set holds the task's, the
-    /// channels that it gives stations of the task's set otherwise than the task's last map does; where there is no such map,
-    /// a copy of the most recently used refutation of this top that may be valid, by its stations, its number of lines and the
-    /// worker. Nothing is said of whether it is valid, which is for the caller to have checked; where nothing is suggested,
-    /// nothing that is kept is valid (`none_is_suggested`). What is suggested stands first of its kind from then on.
+    /// Returns a possible answer to a task under a top channel, which the caller must check. If the result is `None`,
+    /// no entry is valid (`none_is_suggested`).
+    ///
+    /// The suggestion comes from the most recently used map of this top whose set contains the task's. It has the
+    /// channels in which the map differs from the task's last map on the task's set. If no map has such a set, it is
+    /// a copy of the most recently used refutation of this top that may be valid. The stations, the number of lines
+    /// and the worker decide this. The entry becomes the first of its kind.
     ///
     /// # Errors
     ///
-    /// Memory ran out. The cache stands as it was.
+    /// Fails only if memory runs out, and then the cache is unchanged.
     pub fn suggest(
         &mut self,
         alloc: Global,
@@ -217,15 +221,15 @@ impl Cache {
     }
 }
 
-// The entries are of different keys, and no more than there is room for.
+// Proves that the keys of the entries differ, and that there are no more entries than room. Does nothing.
 fn keeps_keys_and_room<V>(entries: &LruCache<Key, V>)
     ensures { IsOrdered same_key entries.now }
 {
-    // What the call's own contract promises of any cache.
+    // The contract of `len` says so for any cache.
     let _count = entries.len();
 }
 
-// Puts the entry of a key first.
+// Makes the entry with this key the first.
 fn bring_to_front<V>(entries: &mut LruCache<Key, V>, key: &Key)
     ensures { entries.new ≡ lru_cache (promoted (same_key key.now) entries.old.entries) entries.old.cap }
 {

@@ -1,4 +1,4 @@
-//! Copies of a refutation.
+//! Copies refutations.
 
 ghost use Rattle.std.specs.Prelude.{◌≡◌, IfOk};
 
@@ -7,7 +7,7 @@ use pack_defs::items::Items;
 use rup_check::line::Log;
 use std::alloc::{AllocError as NoMemory, Global};
 
-/// The same refutation once more. The only error is want of memory.
+/// Returns a copy of the refutation. Fails only if memory runs out.
 pub(crate) fn copy_of(alloc: Global, refutation: &Refutation) -> Result<Refutation, NoMemory>
     ensures { IfOk result (λ copy. copy ≡ refutation.now) }
 {

@@ -1,4 +1,4 @@
-//! What the check of answers says of a kept one.
+//! Checks entries of the cache with `certify`.
 
 ghost use Rattle.std.specs.Prelude.{◌≡◌, IfOk};
 ghost use Rattle.pack_defs.specs.Book.{BookView};
@@ -21,7 +21,7 @@ use pack_defs::channel_map::ChannelMap;
 use pack_defs::worker::Worker;
 use std::alloc::{AllocError as NoMemory, Global};
 
-/// The fit of a kept map's part on the task's set, if it is valid. The only error is want of memory.
+/// Returns the fit that a map leads to on the task's set, if it is valid. Fails only if memory runs out.
 pub(crate) fn fit_of(
     alloc: Global,
     book: &Book,
@@ -36,7 +36,7 @@ pub(crate) fn fit_of(
     judged(alloc, book, task, worker, Answer::Fit(part))
 }
 
-/// A copy of a kept refutation, if it is valid. The only error is want of memory.
+/// Returns a copy of a refutation, if it is valid. Fails only if memory runs out.
 pub(crate) fn refutation_of(
     alloc: Global,
     book: &Book,
@@ -51,7 +51,7 @@ pub(crate) fn refutation_of(
     judged(alloc, book, task, worker, Answer::Refuted(refutation))
 }
 
-// The answer, if it is valid.
+// Returns the answer, if it is valid.
 fn judged(
     alloc: Global,
     book: &Book,
@@ -68,7 +68,7 @@ fn judged(
     }
 }
 
-// Nothing of an answer that is refused, or want of memory.
+// Returns `None` for a rejected answer; passes out of memory on.
 fn nothing_or_error(why: CertifyWhy) -> Result<Option<Answer>, NoMemory>
     ensures { (book : BookView) (task : Task) (worker : Worker) (answer : Answer) → Tells why (answer_fault book task worker answer) →
         IfOk result (λ told. told ≡ when_valid book task worker answer) }

@@ -1,4 +1,4 @@
-//! A refutation as it is kept.
+//! A refutation in the cache.
 
 ghost use Rattle.std.specs.Prelude.{◌≡◌, IfOk};
 ghost use Rattle.cert_types.specs.Valid.{learns};
@@ -13,7 +13,7 @@ use rup_check::line::Log;
 use std::alloc::{AllocError as NoMemory, Global};
 use std::marker::Model;
 
-/// A refutation with the stations that it names, which a set that it refutes has to hold.
+/// A refutation with the stations that it names. A set that it refutes contains them.
 #[derive(Drop)]
 pub struct KeptRefutation {
     stations: SignedSet,
@@ -33,7 +33,7 @@ impl Model for KeptRefutation {
 }
 
 impl KeptRefutation {
-    /// A copy of this refutation, to be kept. The only error is want of memory.
+    /// Returns a copy of this refutation for the cache. Fails only if memory runs out.
     pub fn of(alloc: Global, refutation: &Refutation) -> Result<KeptRefutation, NoMemory>
         ensures { IfOk result (λ kept. kept ≡ refutation.now) }
     {
@@ -43,24 +43,24 @@ impl KeptRefutation {
         })
     }
 
-    /// A copy of the refutation. The only error is want of memory.
+    /// Returns a copy of the refutation. Fails only if memory runs out.
     pub fn copied(&self, alloc: Global) -> Result<Refutation, NoMemory>
         ensures { IfOk result (λ refutation. refutation ≡ self.now) }
     {
         copy_of(alloc, &self.refutation)
     }
 
-    /// Whether it may be valid for a set and a worker, by a look at its stations, its number of lines and the worker: a
-    /// refutation that a look passes over is not valid.
+    /// Whether the refutation may be valid for a set and a worker, by its stations, its number of lines and the
+    /// worker. If not, it is not valid.
     pub fn may_answer(&self, set: &SignedSet, worker: &Worker) -> bool
         ensures { result ≡ may_answer set.now worker.now self.now }
     {
-        // Each refutation names stations of its own, so that none is a witness for the next.
+        // Refutations name different stations, so the last one's missing station says nothing about the next.
         may_be_of(&self.refutation, worker) && set.holds(&self.stations, &mut Witness::none())
     }
 }
 
-// The stations that a refutation names.
+// Returns the stations that a refutation names.
 fn stations_of(alloc: Global, refutation: &Refutation) -> Result<SignedSet, NoMemory>
     ensures { IfOk result (λ set. set ≡ named_stations refutation.now) }
 {
@@ -70,7 +70,7 @@ fn stations_of(alloc: Global, refutation: &Refutation) -> Result<SignedSet, NoMe
     }
 }
 
-// Whether its kind and its number of lines are such that it may be an answer of this worker.
+// Whether a worker may answer with a refutation of this kind and number of lines.
 fn may_be_of(refutation: &Refutation, worker: &Worker) -> bool
     ensures { result ≡ may_be_of worker.now refutation.now }
 {
@@ -80,7 +80,7 @@ fn may_be_of(refutation: &Refutation, worker: &Worker) -> bool
     }
 }
 
-// Whether the worker learns lines, and has these in its budget.
+// Whether the worker learns lines, and its budget covers these.
 fn learns_within(log: &Log, worker: &Worker) -> bool
     ensures { result ≡ learns_within worker.now log.now.lines }
 {

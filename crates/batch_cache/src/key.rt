@@ -1,4 +1,4 @@
-//! Under what an answer is kept.
+//! The key of an entry.
 
 ghost use Rattle.std.specs.Prelude.{◌≡◌, ◌==◌, ◌&&◌, IfOk};
 ghost use Rattle.std.specs.List.{list_all};
@@ -8,7 +8,7 @@ use crate::signed_set::SignedSet;
 use crate::witness::Witness;
 use std::alloc::{AllocError as NoMemory, Global};
 
-/// The top channel and the set of stations that an answer was found for.
+/// The top channel and the set of stations for which an answer was found.
 #[derive(Drop, PartialEq, Eq, Hash)]
 pub struct Key {
     pub top: u8,
@@ -16,7 +16,7 @@ pub struct Key {
 }
 
 impl Key {
-    /// The key of these. The only error is want of memory.
+    /// Returns the key of a top channel and a set. Fails only if memory runs out.
     pub fn of(alloc: Global, top: u8, set: &[u32]) -> Result<Key, NoMemory>
         ensures { IfOk result (λ key. key ≡ record { top = top; set = set.now }) }
     {
@@ -26,7 +26,7 @@ impl Key {
         })
     }
 
-    /// The same key once more. The only error is want of memory.
+    /// Returns a copy of the key. Fails only if memory runs out.
     pub fn copied(&self, alloc: Global) -> Result<Key, NoMemory>
         ensures { IfOk result (λ key. key ≡ self.now) }
     {
@@ -36,8 +36,8 @@ impl Key {
         })
     }
 
-    /// Whether it is of this top channel, and its set holds the stations of the other one. The witness is what the sets before
-    /// left, and a station that this one lacks.
+    /// Whether the key has this top channel and its set contains `set`. The witness comes from the sets tested
+    /// before; a station that this set lacks becomes the witness.
     pub(crate) fn holds(&self, top: u8, set: &SignedSet, witness: &mut Witness) -> bool
         ensures { result ≡ ((self.now.top == top) && list_all (is_in self.now.set) set.now) }
     {

@@ -1,4 +1,4 @@
-//! What it says that no answer is kept, and that none is suggested.
+//! What it means that the cache has no answer, and that it suggests none.
 
 ghost use Rattle.std.specs.Prelude.{ℕ, ◌≡◌, None};
 ghost use Rattle.pack_defs.specs.Book.{BookView};
@@ -9,15 +9,15 @@ ghost use Rattle.batch_cache.specs.Kept.{CacheView};
 ghost use Rattle.batch_cache.specs.NoneKept.{IsNoneKept};
 ghost use Rattle.batch_cache.specs.Suggesting.{suggested_answer};
 
-/// No answer is given exactly where no kept one is valid: of each map of the top channel whose set holds the task's the part
-/// on the task's set is no valid fit, and no refutation of the top channel is valid.
+/// The cache has no answer exactly if no entry is valid. For maps this means that none of the top channel whose set
+/// contains the task's is a valid fit on the task's set.
 pub fn none_is_kept()
     ensures so { (view : CacheView) (top : ℕ) (book : BookView) (task : Task) (worker : Worker) → cached_answer view top book task worker ≡ None → IsNoneKept view top book task worker }
     ensures alone { (view : CacheView) (top : ℕ) (book : BookView) (task : Task) (worker : Worker) → IsNoneKept view top book task worker → cached_answer view top book task worker ≡ None }
 {}
 
-/// Where nothing is suggested to a task, no answer is given to it, over no book. So a racer that has what is suggested checked,
-/// and asks for an answer only where that is refused, misses none.
+/// If nothing is suggested for a task, the cache has no answer to it, over any book. So a racer that has the
+/// suggestion checked, and asks for an answer only if it is rejected, misses none.
 pub fn none_is_suggested()
     ensures { (view : CacheView) (top : ℕ) (task : Task) (worker : Worker) → suggested_answer view top task worker ≡ None → (book : BookView) → cached_answer view top book task worker ≡ None }
 {}

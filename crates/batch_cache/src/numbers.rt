@@ -1,4 +1,4 @@
-//! Small tests on lists of stations.
+//! Membership tests on lists of stations that use what the last test found.
 
 ghost use Rattle.std.specs.Prelude.{◌≡◌, ◌/◌, IsTrue, Some, nat_lt, slice_get};
 ghost use Rattle.std.specs.Bool.{OnTrue};
@@ -6,8 +6,8 @@ ghost use Rattle.pack_defs.specs.Lists.{is_ascending, is_in};
 ghost use Rattle.batch_cache.specs.Gaps.{ends_below, goes_on_above, has_gap};
 ghost use Rattle.batch_cache.specs.Walks.{finds_all};
 
-/// Whether the ascending list has the number. A look at the gap tells, if the number would fill it; else it is sought by halves,
-/// and the gap that it would fill is left for the next list.
+/// Whether the ascending list has the number. If the number fits between the neighbours at `gap`, it is missing.
+/// Otherwise this is a binary search, which leaves the place where a missing number would be in `gap`.
 pub(crate) fn is_in_near(numbers: &[u32], number: u32, gap: &mut usize) -> bool
     requires { IsTrue (is_ascending numbers.now) }
     ensures { result ≡ is_in numbers.now number }
@@ -24,8 +24,8 @@ pub(crate) fn is_in_near(numbers: &[u32], number: u32, gap: &mut usize) -> bool
     }
 }
 
-/// Whether the ascending list has the number, where one number after the other is asked for and they ascend too. What stands at the
-/// place is looked at first, and passed if that is the number; then the gap before it, and only then it is sought by halves.
+/// Whether the ascending list has the number, for numbers that are asked for in ascending order. Looks at place
+/// `next` first, and advances it if the number is there. Then looks at the gap there. Only then searches.
 pub(crate) fn is_in_next(numbers: &[u32], number: u32, next: &mut usize) -> bool
     requires { IsTrue (is_ascending numbers.now) }
     ensures { result ≡ is_in numbers.now number }
@@ -37,7 +37,7 @@ pub(crate) fn is_in_next(numbers: &[u32], number: u32, next: &mut usize) -> bool
     is_in_near(numbers, number, next)
 }
 
-// Whether the number stands at the place.
+// Whether the number is at the place.
 fn stands_at(numbers: &[u32], place: usize, number: u32) -> bool
     ensures { OnTrue result (slice_get numbers.now place ≡ Some number) }
 {
@@ -47,7 +47,7 @@ fn stands_at(numbers: &[u32], place: usize, number: u32) -> bool
     }
 }
 
-// Whether the number would fill a gap at the place: what stands before it is below the number, and what stands there above.
+// Whether the number fits at the place: the element before it is below the number, and the element at it is above.
 fn has_gap(numbers: &[u32], place: usize, number: u32) -> bool
     ensures { result ≡ has_gap numbers.now place number }
 {
@@ -57,7 +57,7 @@ fn has_gap(numbers: &[u32], place: usize, number: u32) -> bool
     ends_below(numbers, place, number)
 }
 
-// Whether the list goes on above the number from the place on, if it goes on.
+// Whether the element at the place, if there is one, is above the number.
 fn goes_on_above(numbers: &[u32], place: usize, number: u32) -> bool
     ensures { result ≡ goes_on_above numbers.now place number }
 {
@@ -67,7 +67,7 @@ fn goes_on_above(numbers: &[u32], place: usize, number: u32) -> bool
     }
 }
 
-// Whether the list comes to the place, and what stands before it, if anything does, is below the number.
+// Whether the list reaches up to the place, and the element before it, if there is one, is below the number.
 fn ends_below(numbers: &[u32], place: usize, number: u32) -> bool
     ensures { result ≡ ends_below numbers.now place number }
 {
@@ -80,17 +80,17 @@ fn ends_below(numbers: &[u32], place: usize, number: u32) -> bool
     }
 }
 
-/// Whether so few numbers are found sooner by halves than by a walk along the others: among some hundreds of them to seek one
-/// takes as long as some ten steps of a walk, and among more as a few more.
+/// Whether `sought` binary searches among `others` numbers cost less than a walk along them. A binary search among
+/// some hundreds takes as long as about ten steps of a walk.
 pub(crate) fn are_few(sought: usize, others: usize) -> bool
     ensures { result ≡ nat_lt sought (others / 16) }
 {
     sought < others / 16
 }
 
-/// Whether a walk along both lists finds each number of the second one in the first; where both ascend, it does so exactly
-/// where all are there. It ends with the first number that is missing, whose place is left, and isn't begun where the second
-/// list is the longer one.
+/// Whether a walk along both lists finds each number of the second in the first. If both ascend, it does so exactly
+/// if the first list has them all. Stops at the first number that is missing and leaves its place in `missing`. Does
+/// not start if the second list is longer.
 pub(crate) fn finds_all(these: &[u32], sought: &[u32], missing: &mut usize) -> bool
     ensures { result ≡ finds_all these.now sought.now }
 {

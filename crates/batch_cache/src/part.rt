@@ -1,4 +1,4 @@
-//! The part of a channel map on some stations.
+//! Restricts a channel map to a set of stations.
 
 ghost use Rattle.std.specs.Prelude.{◌≡◌, IfOk, IfSome, IsTrue, Some, slice_get};
 ghost use Rattle.pack_defs.specs.Lists.{has_entry, is_ascending};
@@ -10,7 +10,7 @@ use crate::signed_set::SignedSet;
 use pack_defs::channel_map::ChannelMap;
 use std::alloc::{AllocError as NoMemory, Global};
 
-/// The map restricted to an ascending set: a walk along both. The only error is want of memory.
+/// Returns the map restricted to an ascending set. Costs a walk along both. Fails only if memory runs out.
 pub(crate) fn part_on(alloc: Global, set: &[u32], map: &ChannelMap) -> Result<ChannelMap, NoMemory>
     requires { IsTrue (is_ascending set.now) }
     ensures { IfOk result (λ part. part ≡ part_on set.now map.now) }
@@ -25,9 +25,9 @@ pub(crate) fn part_on(alloc: Global, set: &[u32], map: &ChannelMap) -> Result<Ch
     ChannelMap::of(alloc, &entries)
 }
 
-/// The channels that a map gives stations of a set otherwise than the last map does. One walk along the map, the set and the last
-/// map, as long as the set's stations stand in the map and the last map's in the set, and else with searches by halves. The only
-/// error is want of memory.
+/// Returns the channels in which a map differs from the last map on the stations of a set. Costs one walk along the
+/// map, the set and the last map. A station of the set that the map lacks, or of the last map that the set lacks, may
+/// add a binary search. Fails only if memory runs out.
 pub(crate) fn changes_on(
     alloc: Global,
     set: &SignedSet,
@@ -46,7 +46,8 @@ pub(crate) fn changes_on(
     ChannelMap::of(alloc, &changes)
 }
 
-// Whether the last map lacks the entry, and its station is of the set. The places are where the set and the last map go on.
+// Whether the entry's station is in the set and the last map lacks the entry. The places are where to continue in the
+// set and in the last map.
 fn is_change(
     set: &SignedSet,
     last: &ChannelMap,
@@ -62,8 +63,8 @@ fn is_change(
     false
 }
 
-// Whether the map has the entry. The place is looked at first, and passed where the entry's station stands there; only where it
-// doesn't, the entry is sought.
+// Whether the map has the entry. Looks at the place first, and advances it if the entry's station is there; otherwise
+// searches for the entry.
 fn has_next_entry(map: &ChannelMap, entry: (u32, u8), next: &mut usize) -> bool
     ensures { result ≡ has_entry map.now entry }
 {
@@ -76,7 +77,7 @@ fn has_next_entry(map: &ChannelMap, entry: (u32, u8), next: &mut usize) -> bool
     }
 }
 
-// The channel of the station, if it stands at the place.
+// Returns the station's channel, if the station is at the place.
 fn channel_at(entries: &[(u32, u8)], place: usize, station: u32) -> Option<u8>
     ensures { IfSome result (λ channel. slice_get entries.now place ≡ Some (station, channel)) }
 {

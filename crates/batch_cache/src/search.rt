@@ -1,4 +1,5 @@
-//! The search for a kept answer, from the one that was used last on.
+//! Searches the cache for an entry that answers, from the most recently used on. A `task.set` is passed as `asked`
+//! too, with its bits.
 
 ghost use Rattle.std.specs.Prelude.{◌≡◌, IfOk, find, option_map};
 ghost use Rattle.cert_types.specs.Certificate.{IsTaskOf};
@@ -20,15 +21,15 @@ use pack_defs::channel_map::ChannelMap;
 use pack_defs::worker::Worker;
 use std::alloc::{AllocError as NoMemory, Global};
 
-/// What was found: the key of the entry that answers, and the answer.
+/// The key of the entry that answers, and the answer.
 #[derive(Drop)]
 pub(crate) struct FoundAnswer {
     pub(crate) key: Key,
     pub(crate) answer: Answer,
 }
 
-/// The fit of the most recently used map that gives one. The task's set is given with its bits too. A station of it that one map's
-/// set lacked is looked for first in the next one. The only error is want of memory.
+/// Returns the fit of the most recently used map that leads to one. A station that one map's set lacked is tested
+/// first against the next one. Fails only if memory runs out.
 pub(crate) fn first_fit(
     alloc: Global,
     maps: &LruCache<Key, ChannelMap>,
@@ -55,8 +56,7 @@ pub(crate) fn first_fit(
     Ok(None)
 }
 
-/// A copy of the most recently used refutation that is valid. The task's set is given with its bits too. The only error is want
-/// of memory.
+/// Returns a copy of the most recently used refutation that is valid. Fails only if memory runs out.
 pub(crate) fn first_refutation(
     alloc: Global,
     refutations: &LruCache<Key, KeptRefutation>,
@@ -85,8 +85,8 @@ pub(crate) fn first_refutation(
     Ok(None)
 }
 
-/// What the most recently used map whose set holds the task's gives stations of it otherwise than the task's last map does. The
-/// task's set is given with its bits too. The only error is want of memory.
+/// Returns the channels in which the most recently used map whose set contains the task's differs from the task's
+/// last map. Fails only if memory runs out.
 pub(crate) fn first_changes(
     alloc: Global,
     maps: &LruCache<Key, ChannelMap>,
@@ -110,8 +110,7 @@ pub(crate) fn first_changes(
     Ok(None)
 }
 
-/// A copy of the most recently used refutation that may be valid. The task's set is given with its bits too. The only error is
-/// want of memory.
+/// Returns a copy of the most recently used refutation that may be valid. Fails only if memory runs out.
 pub(crate) fn first_likely_refutation(
     alloc: Global,
     refutations: &LruCache<Key, KeptRefutation>,

@@ -1,4 +1,5 @@
-//! A list of stations that tells soon whether it holds the stations of another one.
+//! A list of stations with a fast test whether it contains another one. A signature of 1,024 bits rejects most sets
+//! at once, and the last missing station rejects most of the others.
 
 ghost use Rattle.std.specs.Prelude.{◌≡◌, IfOk, nat_eq};
 ghost use Rattle.std.specs.List.{list_all};
@@ -19,11 +20,11 @@ use std::alloc::{AllocError as NoMemory, Global};
 use std::hash::{Hash, Hasher};
 use std::marker::Model;
 
-/// Some stations, as they were given, with their bits beside them. Two are equal where their stations are.
+/// Some stations in their given order, with their bits. Two sets are equal if their lists are.
 #[derive(Drop)]
 pub struct SignedSet {
     stations: Vec<u32>,
-    // Whether the stations ascend, as those of each task of an auction do: then one is found by halves.
+    // Whether the stations ascend, as those of every task do; then a look-up is a binary search.
     ascends: bool,
     bits: StationBits,
 }
@@ -65,7 +66,7 @@ impl Hash for SignedSet {
 }
 
 impl SignedSet {
-    /// The list of these stations. The only error is want of memory.
+    /// Returns the set of these stations. Fails only if memory runs out.
     pub fn of(alloc: Global, stations: &[u32]) -> Result<SignedSet, NoMemory>
         ensures { IfOk result (λ set. set ≡ stations.now) }
     {
@@ -76,7 +77,7 @@ impl SignedSet {
         })
     }
 
-    /// The same list once more. The only error is want of memory.
+    /// Returns a copy of the set. Fails only if memory runs out.
     pub fn copied(&self, alloc: Global) -> Result<SignedSet, NoMemory>
         ensures { IfOk result (λ set. set ≡ self.now) }
     {
@@ -87,14 +88,14 @@ impl SignedSet {
         })
     }
 
-    /// The stations.
+    /// Returns the stations.
     pub fn stations(&self) -> &[u32]
         ensures { result.now ≡ self.now }
     {
         &self.stations
     }
 
-    /// Whether it has the station.
+    /// Whether the set has the station.
     pub fn has(&self, station: u32) -> bool
         ensures { result ≡ is_in self.now station }
     {
@@ -104,7 +105,8 @@ impl SignedSet {
         self.stations.contains(&station)
     }
 
-    /// Whether it has the station, where one after the other is asked for and they ascend. The place is where its own go on.
+    /// Whether the set has the station, for stations that are asked for in ascending order. `next` is the place where
+    /// to continue.
     pub(crate) fn has_next(&self, station: u32, next: &mut usize) -> bool
         ensures { result ≡ is_in self.now station }
     {
@@ -114,8 +116,8 @@ impl SignedSet {
         self.stations.contains(&station)
     }
 
-    /// Whether it has each station of the other one. Mostly a look at a word or two tells that it hasn't, and else one at the
-    /// witness; only then are both walked along, or each station is sought. A station that it lacks becomes the witness.
+    /// Whether the set has each station of the other one. Mostly the bits reject the set at once, or the witness
+    /// does; only then are the stations compared. A station that the set lacks becomes the witness.
     pub(crate) fn holds(&self, others: &SignedSet, witness: &mut Witness) -> bool
         ensures { result ≡ list_all (is_in self.now) others.now }
     {
@@ -125,8 +127,8 @@ impl SignedSet {
         self.has_where_covered(others, witness)
     }
 
-    // Whether it has each station of the other one, where no bit tells: a look at the witness tells, or all are gone through. It
-    // is a call of its own, since what it saves on the stack would else be saved for most sets that the bits tell.
+    // The rest of `holds`, if the bits do not decide. It is a function of its own so that the common case does not
+    // pay for its stack frame.
     #[inline(never)]
     fn has_where_covered(&self, others: &SignedSet, witness: &mut Witness) -> bool
         ensures { result ≡ list_all (is_in self.now) others.now }
@@ -137,7 +139,7 @@ impl SignedSet {
         self.has_all(others, witness)
     }
 
-    // Whether it lacks the witness, if that is a station of the other one.
+    // Whether the set lacks the witness, if that is a station of the other one.
     fn lacks(&self, others: &SignedSet, witness: &mut Witness) -> bool
         ensures { result ≡ lacks_at self.now others.now witness.old.place }
     {
@@ -147,7 +149,7 @@ impl SignedSet {
         !self.has_near(*station, &mut witness.gap)
     }
 
-    // Whether it has the station: where its own ascend, a gap that this one may fill is looked at first.
+    // Whether the set has the station. If the set ascends, looks at the gap first.
     fn has_near(&self, station: u32, gap: &mut usize) -> bool
         ensures { result ≡ is_in self.now station }
     {
@@ -157,7 +159,8 @@ impl SignedSet {
         self.stations.contains(&station)
     }
 
-    // Whether it has each station of the other one: by a walk along both, where both ascend and the other one hasn't only a few.
+    // Whether the set has each station of the other one. If both ascend, this is a walk along both, unless the other
+    // one has only a few.
     fn has_all(&self, others: &SignedSet, witness: &mut Witness) -> bool
         ensures { result ≡ list_all (is_in self.now) others.now }
     {
@@ -170,8 +173,8 @@ impl SignedSet {
         finds_all(&self.stations, &others.stations, &mut witness.place)
     }
 
-    // Whether it has each of these stations: each is sought, by halves where its own ascend. The place of one that it lacks is
-    // left.
+    // Whether the set has each of these stations, each looked up by itself. Leaves the place of a missing one in
+    // `missing`.
     fn has_each(&self, stations: &[u32], missing: &mut usize) -> bool
         ensures { result ≡ list_all (is_in self.now) stations.now }
     {

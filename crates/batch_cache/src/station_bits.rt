@@ -1,13 +1,13 @@
-//! Bits of a set of stations, by which a set that doesn't hold another one is mostly told by one look at two numbers.
+//! The signature of a set of stations: mostly one comparison of two words shows that a set does not contain another.
 
 ghost use Rattle.std.specs.Prelude.{◌≡◌, ◌<◌};
 ghost use Rattle.batch_cache.specs.StationBits.{are_covered, covers_word, station_bit, station_bits, word_place};
 
-/// 1,024 bits in sixteen words, of which each station sets one: a country's 3,000 stations share a bit by threes, and a set of
-/// 300 sets some 19 bits of a word.
+/// 1,024 bits in sixteen words; each station sets one. Of a country's 3,000 stations, three share a bit, and a set of
+/// 300 sets about 19 bits of a word.
 pub(crate) type StationBits = [u64; 16];
 
-/// The bits of these stations.
+/// Returns the bits of these stations.
 pub(crate) fn station_bits(stations: &[u32]) -> StationBits
     ensures { result ≡ station_bits stations.now }
 {
@@ -18,7 +18,7 @@ pub(crate) fn station_bits(stations: &[u32]) -> StationBits
     words
 }
 
-// The place of the word in which a station's bit stands.
+// Returns the place of a station's word.
 fn word_place(station: u32) -> usize
     ensures place { result ≡ word_place station }
     ensures within { result < 16 }
@@ -26,15 +26,15 @@ fn word_place(station: u32) -> usize
     (station / 64 % 16) as usize
 }
 
-// The bit of a station in its word.
+// Returns a station's bit in its word.
 fn station_bit(station: u32) -> u64
     ensures { result ≡ station_bit station }
 {
     1 << (station % 64)
 }
 
-/// Whether all of the bits are among these, as they are where these are of a set that holds the stations of the others. It
-/// ends with the first word of which one is not.
+/// Whether all of `bits` are among `these`, as they are if the one set contains the other. Stops at the first word
+/// that differs.
 pub(crate) fn are_covered(these: &StationBits, bits: &StationBits) -> bool
     ensures { result ≡ are_covered these.now bits.now }
 {

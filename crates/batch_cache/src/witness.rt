@@ -1,11 +1,11 @@
-//! What a search remembers of the sets that it has gone through, so that the next one is told sooner.
+//! What a search remembers of the last set, to reject the next one sooner.
 
 ghost use Rattle.std.specs.Prelude.{◌≡◌};
 
-/// The station of a query that the last set lacked, by its place among the query's, and the gap that it would fill, by the place
-/// among that set's at which it would stand. Sets that were kept one after the other mostly lack the same station, and have much
-/// the same ones below it. Nothing is claimed of it, and a place beyond all stations names none: a set is passed over only where
-/// a look at its own stations shows that it lacks this one.
+/// The station of a query that the last set lacked, and the gap in that set where it would be. The station is given
+/// by its place in the query. Sets that were stored one after the other mostly lack the same station and have much
+/// the same ones below it. The witness is only a guess: a set is skipped only if its own stations show that it lacks
+/// this one. A place beyond all stations names none.
 #[derive(Clone, Copy)]
 pub(crate) struct Witness {
     pub(crate) place: usize,
@@ -13,7 +13,7 @@ pub(crate) struct Witness {
 }
 
 impl Witness {
-    /// None, before a set was gone through.
+    /// Returns no witness, for the first set.
     pub(crate) fn none() -> Witness
         ensures { result ≡ record { place = usize.MAX; gap = 0 } }
     {

@@ -1,4 +1,4 @@
--- The first name of a list that passes, where the item that comes next has it.
+-- The first name of a list that passes, if the next item has it.
 use Rattle.std.proofs.Common.{◌≡◌, ◌<◌, ℕ, Bool, true, List, Some, refl, length, map, drop, get_or}
 use Rattle.std.specs.List.{find}
 use Rattle.std.proofs.lemmas.List.{drop_more}

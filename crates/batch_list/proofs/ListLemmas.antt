@@ -1,5 +1,4 @@
--- What some records and lines list behind what was listed, one after another, that a refusal passes on, and how many a list
--- has.
+-- How records and lines extend the earlier records, that an error propagates, and how many records a list has.
 use Rattle.std.proofs.Common.{◌≡◌, ◌∙◌, ◌<◌, ◌≤◌, ◌+◌, ◌∷◌, ◌++◌, [], ℕ, true, false, cond, ltb, List, Option, Some, None, Result, Ok, Err, refl, sym, ap, subst, arith, length, map, drop, get_or}
 use Rattle.std.specs.Option.{option_and_then, option_map}
 use Rattle.std.proofs.lemmas.Bool.{ltb-true}
@@ -14,20 +13,20 @@ use Rattle.batch_list.specs.declared.error.ListAddErr.TheVariants.{NoMemory, Ref
 use Rattle.batch_list.specs.declared.error.ListErr.{ListErr}
 use Rattle.batch_list.specs.declared.error.ListErr.TheVariants.{BadLine, Empty, NoMemory as NoRoom}
 
--- what some records list, by the first of them
+-- The names of some records, by the first of them.
 with-first : (listed : List ListedNames) (rs : List (List (List ℕ))) (i : ℕ) (r : List (List ℕ)) → i < length rs → r ≡ get_or rs i r
     → with_all_listed listed (drop i rs) ≡ option_and_then (λ next. with_all_listed next (drop (i + 1) rs)) (with_listed listed r)
 unfolding with_all_listed
 with-first listed rs i r h e = rw (drop_more rs i r h, ← e) refl
 
--- a record that is refused refuses all from it on
+-- An error of a record is the error of all records from it on.
 stops : (listed new : List ListedNames) (rs : List (List (List ℕ))) (i : ℕ) (r : List (List ℕ)) (e : ListAddErr) → i < length rs → r ≡ get_or rs i r
     → ListChanges (with_listed listed r) new (Err e) → ListChanges (with_all_listed listed (drop i rs)) new (Err e)
 stops listed new rs i r Refused h is refused =
     with-first listed rs i r h is ∙ ap (option_and_then (λ next. with_all_listed next (drop (i + 1) rs))) refused
 stops listed new rs i r NoMemory h is refused = tt
 
--- the same of records that are each made from an item of a list
+-- The same for records that are each made from an item of a list.
 module _ {X : Type 0} (own : X → List (List ℕ)) (xs : List X) where
   within : (i : ℕ) → i < length xs → i < length (map own xs)
   within i h = subst (λ n. i < n) (sym (length-map xs own)) h
@@ -44,31 +43,31 @@ module _ {X : Type 0} (own : X → List (List ℕ)) (xs : List X) where
       with-first listed (map own xs) i (own x) (within i h) (at i x is)
       ∙ ap (option_and_then (λ next. with_all_listed next (drop (i + 1) (map own xs)))) (ap (with_listed listed) (sym same) ∙ taken)
 
-  -- no record is left
+  -- No record is left.
   pub none-own : (listed : List ListedNames) (i : ℕ) → length xs ≤ i → with_all_listed listed (drop i (map own xs)) ≡ Some listed
   unfolding with_all_listed
   none-own listed i h = rw (drop_all i (map own xs) (subst (λ n. n ≤ i) (sym (length-map xs own)) h)) refl
 
--- what the lines of some bytes list, by the first of them
+-- The names in the lines of some bytes, by the first of them.
 pub line-next : (listed : List ListedNames) (number : ℕ) (bytes line rest : List ℕ) → lines_of bytes ≡ line ∷ lines_of rest
     → with_list_lines listed number (lines_of bytes) ≡ after_list_line number (with_all_listed listed (line_records line)) (λ next. with_list_lines next (number + 1) (lines_of rest))
 unfolding with_list_lines
 line-next listed number bytes line rest e = rw e refl
 
--- a line that is refused refuses all from it on
+-- An error of a line is the error of all lines from it on.
 pub line-stops : (listed : List ListedNames) (number : ℕ) (bytes line rest : List ℕ) → lines_of bytes ≡ line ∷ lines_of rest
     → with_all_listed listed (line_records line) ≡ None → with_list_lines listed number (lines_of bytes) ≡ Err (BadLine number)
 line-stops listed number bytes line rest first refused =
     line-next listed number bytes line rest first ∙ ap (λ o. after_list_line number o (λ next. with_list_lines next (number + 1) (lines_of rest))) refused
 
--- no bytes have no lines
+-- No bytes have no lines.
 pub lines-none : (listed : List ListedNames) (number : ℕ) → with_list_lines listed number (lines_of []) ≡ Ok listed
 unfolding with_list_lines lines_of
 lines-none listed number = refl
 
--- ---- a list that was read through
+-- ---- a list that was read to its end
 
--- a refusal of the records is one of the list
+-- An error of the records is an error of the list.
 pub list-refused : (bytes : List ℕ) (e : ListErr) → ListReads (with_list_lines [] 1 (lines_of bytes)) (Err e) → ListReads (list_of bytes) (Err e)
 unfolding list_of
 list-refused bytes (BadLine line) is = ap unless_empty is
@@ -85,7 +84,7 @@ unfolding list_of
 list-read bytes [] is some = absurd (omega (arith, some))
 list-read bytes (x ∷ xs) is some = ap unless_empty is
 
--- ---- a list has no more records than it may have
+-- ---- a list has at most as many records as its limit
 
 one-more : (o : Option ListedNames) (listed next : List ListedNames) → option_map (λ names. listed ++ names ∷ []) o ≡ Some next → length next ≡ length listed + 1
 one-more None listed next is = absurd (none-some next is)
@@ -107,7 +106,7 @@ records-few [] listed next few is = subst (λ xs. length xs ≤ list_limit) (sam
 records-few (r ∷ rs) listed next few is =
     option_and_then_some (λ n. with_all_listed n rs) (with_listed listed r) next is (λ x taken rest. records-few rs x next (record-few listed x r taken) rest)
 
--- what came before, where the lines behind a line were read through
+-- The earlier records, if the lines behind a line were read to the end.
 after-read : {P : Type 0} (number : ℕ) (o : Option (List ListedNames)) (rest : List ListedNames → Result (List ListedNames) ListErr) (next : List ListedNames) → after_list_line number o rest ≡ Ok next → ((x : List ListedNames) → o ≡ Some x → rest x ≡ Ok next → P) → P
 after-read number None rest next is go = cc
 after-read number (Some x) rest next is go = go x refl is

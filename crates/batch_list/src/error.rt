@@ -1,4 +1,4 @@
-//! Why a list is refused.
+//! Why a list is rejected.
 
 ghost use Rattle.std.specs.Prelude.{◌≡◌};
 ghost use Rattle.batch_list.specs.declared.error.ListAddErr.TheVariants.{NoMemory as NoRoom};
@@ -9,9 +9,9 @@ use std::alloc::{AllocError, AllocFailed};
 /// Why a list was not read.
 #[derive(Clone, Copy, Debug, PartialEq, Eq)]
 pub enum ListErr {
-    /// A record is refused: the first one. It stands in this line, where the first line is 1.
+    /// A record is invalid: the first one, in this line. Lines are counted from 1.
     BadLine { line: u64 },
-    /// It has no record.
+    /// The list has no record.
     Empty,
     /// Memory ran out.
     NoMemory,
@@ -25,10 +25,10 @@ impl From<AllocError> for ListErr {
     }
 }
 
-/// Why a record was not taken.
+/// Why a record was not added.
 #[derive(Clone, Copy, Debug, PartialEq, Eq)]
 pub(crate) enum ListAddErr {
-    /// It is refused.
+    /// The record is invalid.
     Refused,
     /// Memory ran out.
     NoMemory,

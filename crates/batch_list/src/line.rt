@@ -1,4 +1,4 @@
-//! What a record of a list says: the names of a scenario file and of the file for its result.
+//! A record of a list: the names of a scenario file and of the file for its result.
 
 ghost use Rattle.std.specs.Prelude.{◌≡◌, IfOk, IsFalse, IsTrue, MatchOption, map};
 ghost use Rattle.std.specs.Option.{option_map};
@@ -9,7 +9,7 @@ use std::alloc::{AllocError as NoMemory, Global};
 use std::marker::Model;
 use std::str;
 
-/// A record of a list: the name of a scenario file, and of the file for its result.
+/// A record of a list: the name of a scenario file, and the name of the file for its result.
 #[derive(Drop)]
 pub struct BatchLine {
     scenario: String,
@@ -26,7 +26,10 @@ impl Model for BatchLine {
 }
 
 impl BatchLine {
-    /// The record of these names. The only error is want of memory.
+    /// Returns the record of these names.
+    ///
+    /// # Errors
+    /// Fails only if memory runs out.
     pub(crate) fn new(alloc: Global, scenario: &str, output: &str) -> Result<BatchLine, NoMemory>
         ensures { IfOk result (λ l. l ≡ record { scenario = scenario.now; result = output.now }) }
     {
@@ -36,14 +39,14 @@ impl BatchLine {
         })
     }
 
-    /// The name of the scenario file.
+    /// Returns the name of the scenario file.
     pub fn scenario(&self) -> &str
         ensures { result.now ≡ self.now.scenario }
     {
         self.scenario.as_str()
     }
 
-    /// The name of the file for the result.
+    /// Returns the name of the file for the result.
     pub fn result(&self) -> &str
         ensures { result.now ≡ self.now.result }
     {
@@ -51,7 +54,7 @@ impl BatchLine {
     }
 }
 
-/// The bytes as a text, if they are UTF-8.
+/// Returns the bytes as a text, if they are UTF-8.
 fn text(bytes: &[u8]) -> Option<&str>
     ensures { MatchOption result (IsFalse (is_utf8 bytes.now)) (λ text. (text.now ≡ bytes.now) × IsTrue (is_utf8 bytes.now)) }
 {
@@ -61,7 +64,8 @@ fn text(bytes: &[u8]) -> Option<&str>
     }
 }
 
-/// The names that the fields of a record give: of a scenario file, and of the file for its result.
+/// Returns the names in the fields of a record: of a scenario file, and of the file for its result. Returns `None` if the record does
+/// not have two fields, or a field isn't UTF-8.
 pub(crate) fn names_of(fields: &[Vec<u8>]) -> Option<(&str, &str)>
     ensures { option_map (λ names. record { scenario = names.0.now; result = names.1.now }) result ≡ listed_of (map (λ f. f.items) fields.now) }
 {

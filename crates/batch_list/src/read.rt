@@ -11,10 +11,10 @@ use crate::line::{BatchLine, names_of};
 use constraint_files::records::{fields, split_line};
 use std::alloc::Global;
 
-/// The most records that a list may have.
+/// The most records of a list.
 pub const LIST_LIMIT: usize = 256;
 
-/// Adds what a record says. After an error the list is lost.
+/// Adds a record. After an error the list is unusable.
 fn add_record(alloc: Global, list: &mut Vec<BatchLine>, row: &[Vec<u8>]) -> Result<(), ListAddErr>
     ensures { ListChanges (with_listed list.old.items (map (λ f. f.items) row.now)) list.new.items result }
 {
@@ -28,7 +28,7 @@ fn add_record(alloc: Global, list: &mut Vec<BatchLine>, row: &[Vec<u8>]) -> Resu
     Ok(())
 }
 
-/// Adds what the records of a line of the file say. After an error the list is lost.
+/// Adds the records of one line of the file. After an error the list is unusable.
 fn add_line(alloc: Global, list: &mut Vec<BatchLine>, line: &[u8]) -> Result<(), ListAddErr>
     ensures { ListChanges (with_all_listed list.old.items (line_records line.now)) list.new.items result }
 {
@@ -39,7 +39,7 @@ fn add_line(alloc: Global, list: &mut Vec<BatchLine>, line: &[u8]) -> Result<(),
     Ok(())
 }
 
-/// Reads the records of a list, of which there may be none.
+/// Reads the records of a list, which may be empty.
 fn read_records(alloc: Global, bytes: &[u8]) -> Result<Vec<BatchLine>, ListErr>
     ensures { ListReads (with_list_lines [] 1 (lines_of bytes.now)) result }
 {
@@ -59,15 +59,16 @@ fn read_records(alloc: Global, bytes: &[u8]) -> Result<Vec<BatchLine>, ListErr>
     Ok(list)
 }
 
-/// Reads the list of a batch. Each of its records is `SCENARIO,RESULT`: the name of a scenario file, and that of the file
-/// for its result, both UTF-8. There are 1 to 256 of them, and they are given in the order of the list. Lines, records and
-/// fields are those of the constraint files: blanks round a name are no part of it, a name with a comma in it stands in
-/// quotes, and a line with no field is passed over.
+/// Reads the list of a batch. Each record is `SCENARIO,RESULT`: the name of a scenario file, and the name of the file for its result,
+/// both UTF-8. A list has 1 to 256 records, which are returned in the order of the list.
+///
+/// Lines, records and fields are those of the constraint files. Blanks around a name are dropped, a name with a comma must be quoted,
+/// and a line without a field is skipped.
 ///
 /// # Errors
 ///
-/// `BadLine` at the first record that hasn't two fields, that has a field that isn't UTF-8, or that is the 257th, with its
-/// line's number, counted from 1. `Empty` where there is no record. `NoMemory` where memory runs out.
+/// `BadLine` at the first record that does not have two fields, has a field that isn't UTF-8, or is the 257th, with its line number,
+/// counted from 1. `Empty` if the list has no record. `NoMemory` if memory runs out.
 pub fn read_list(alloc: Global, bytes: &[u8]) -> Result<Vec<BatchLine>, ListErr>
     ensures reads { ListReads (list_of bytes.now) result }
     ensures some { IfOk result (λ v. 1 ≤ length v.items) }

@@ -1,4 +1,4 @@
-//! Whether a result's name is given twice: then one file would be written over by another, or over one that is read.
+//! Whether a result's name occurs twice. If so, a file would be overwritten by another result, or a file that is read would be.
 
 ghost use Rattle.std.specs.Prelude.{◌≡◌, ◌<◌, count_by, map};
 ghost use Rattle.std.specs.Option.{option_map};
@@ -7,28 +7,28 @@ ghost use Rattle.batch_list.specs.Repeated.{is_given_twice, repeated_result};
 
 use crate::line::BatchLine;
 
-/// How often the name stands among these words.
+/// Returns how often the name is among these words.
 fn times_in_words(name: &str, words: &[&str]) -> usize
     ensures { result ≡ count_by (bytes_eq name.now) (map (λ w. w.now) words.now) }
 {
     words.iter().filter(|word| name == **word).count()
 }
 
-/// How often the name is that of a scenario.
+/// Returns how often the name is the name of a scenario.
 fn times_a_scenario(name: &str, lines: &[BatchLine]) -> usize
     ensures { result ≡ count_by (bytes_eq name.now) (map (λ l. l.scenario) lines.now) }
 {
     lines.iter().filter(|line| name == line.scenario()).count()
 }
 
-/// How often the name is that of a result.
+/// Returns how often the name is the name of a result.
 fn times_a_result(name: &str, lines: &[BatchLine]) -> usize
     ensures { result ≡ count_by (bytes_eq name.now) (map (λ l. l.result) lines.now) }
 {
     lines.iter().filter(|line| name == line.result()).count()
 }
 
-/// Whether the name is given more than once, as a word, a scenario or a result.
+/// Checks whether the name occurs more than once, as a word, a scenario or a result.
 fn is_given_twice(name: &str, words: &[&str], lines: &[BatchLine]) -> bool
     ensures { result ≡ is_given_twice name.now (map (λ w. w.now) words.now) lines.now }
 {
@@ -38,9 +38,9 @@ fn is_given_twice(name: &str, words: &[&str], lines: &[BatchLine]) -> bool
     times > 1
 }
 
-/// The first result's name, in the order of the list, that is given more than once: that equals one of the words, a
-/// scenario's name, or another result's. Names are compared byte by byte, so `a` and `./a` differ. Two scenarios, or two
-/// words, may have one name.
+/// Returns the first result's name, in the order of the list, that occurs more than once. It equals one of the words, a scenario's
+/// name, or another result's name. Names are compared byte by byte, so `a` and `./a` differ. Two scenarios, or two words, may
+/// have the same name.
 pub fn first_repeated<'a>(words: &[&str], lines: &'a [BatchLine]) -> Option<&'a str>
     ensures { option_map (λ name. name.now) result ≡ repeated_result (map (λ w. w.now) words.now) lines.now }
 {

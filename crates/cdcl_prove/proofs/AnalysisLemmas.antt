@@ -1,4 +1,4 @@
--- What the marks of an analysis keep.
+-- For `analysis`: what the marks of an analysis keep.
 use Rattle.std.proofs.Common.{◌≡◌, ℕ, ◌+◌, ◌<◌, ◌≤◌, true, false, List, [], Option, Some, None, length, get_or, take, refl, sym, ap, ◌∙◌, subst, inl, inr, ◌⊎◌}
 use Rattle.std.specs.List.{All}
 use Rattle.std.proofs.lemmas.Bool.{false≢true}
@@ -27,7 +27,7 @@ more-then one two three a b = record {
   same = λ v. b.same v ∙ a.same v;
 }
 
--- one literal of a clause more is met
+-- one more literal of a clause is met
 pub met-more : (clause : List Lit) (i : ℕ) (d : Lit) (one two : List VariableMark) → MeetsMore one two → i < length clause → has_met two (get_or clause i d).var ≡ true → All (λ (l : Lit). has_met one l.var ≡ true) (take i clause) → All (λ (l : Lit). has_met two l.var ≡ true) (take (i + 1) clause)
 met-more clause i d one two m l h a =
     All-more (λ (x : Lit). has_met two x.var ≡ true) clause i d l (All-weaker (λ (x : Lit). has_met one x.var ≡ true) (λ (x : Lit). has_met two x.var ≡ true) (λ x k. m.still x.var k) (take i clause) a) h
@@ -40,7 +40,7 @@ reason-still : (one two : List VariableMark) (clauses : List (List Lit)) (o : Op
 reason-still one two clauses None s m = m
 reason-still one two clauses (Some n) s m = met-still one two (clause_at clauses n) s m
 
--- nothing is resolved away where nothing was met
+-- nothing is resolved away if nothing was met
 pub none-resolved : (marks : List VariableMark) → ((v : ℕ) → mark_of marks v ≡ Unmet) → (v : ℕ) → resolves marks v ≡ false
 none-resolved marks u v = ap is_resolved (u v)
 
@@ -64,13 +64,13 @@ closed-after c es at n d clause one two three t l r k before more met size still
   ];
 }
 
--- a mark says one thing
+-- a mark is not both kept and resolved
 apart : (m : VariableMark) → is_resolved m ≡ true → is_kept m ≡ false
 apart Unmet e = refl
 apart Kept e = cc
 apart Resolved e = refl
 
--- an analysed conflict gives a line that follows
+-- the line of an analysed conflict follows
 pub analysed-follows : (c : Clauses) (es : List TrailEntry) (conflict : ℕ) (marks : List VariableMark) → IsTrail c es → IsFalseAt (lits_of es) (clause_at c.list conflict) → IsAnalysed c.vars c.list es conflict marks → line_fault c.vars c.list (record { lits = learnt_line_of (keeps marks) es; hints = hints_of (resolves marks) es conflict }) ≡ None
 analysed-follows c es conflict marks t f a =
     line-follows c (keeps marks) (resolves marks) es conflict t (λ v r. apart (mark_of marks v) r) a.closed.closed f a.met

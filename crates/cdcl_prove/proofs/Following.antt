@@ -1,4 +1,4 @@
--- The line that an analysis takes from a conflict follows by its hints.
+-- For `analysis`: the line that an analysis takes from a conflict follows by its hints.
 use Rattle.std.proofs.Common.{◌≡◌, ℕ, ◌+◌, ◌≤◌, Bool, true, false, not, cond, ◌||◌, ◌&&◌, ◌==◌, List, [], ◌∷◌, ◌++◌, map, Option, Some, None, Result, Ok, refl, sym, ap, ◌∙◌, subst, arith, append_assoc, nat_lt}
 use Rattle.std.specs.List.{All, list_any}
 use Rattle.std.proofs.lemmas.Bool.{and_parts, and_from, or_left, or_from, cond-false, ne_eqb, le-ltb}
@@ -32,7 +32,7 @@ has-append (x ∷ xs) ys l = step (same_lit l x) (has-append xs ys l)
     step true e = refl
     step false e = e
 
--- which literals the entries of some variables have
+-- the literals that the entries of some variables have
 pub has-some : (test : ℕ → Bool) (es : List TrailEntry) (l : Lit) → has_lit (lits_of (entries_passing test es)) l ≡ (has_lit (lits_of es) l && test l.var)
 has-some test [] l = refl
 has-some test (x ∷ xs) l = step (has-some test xs l) (same_lit l x.lit) refl (test x.lit.var) refl
@@ -49,7 +49,7 @@ has-some test (x ∷ xs) l = step (has-some test xs l) (same_lit l x.lit) refl (
     step ih false e true f = ap (λ (b : Bool). b || has_lit (lits_of (entries_passing test xs)) l) e ∙ ih
     step ih false e false f = ih
 
--- what is known before the entries after these: the kept literals, and those of these that are resolved away
+-- what is known before the entries after these: the kept literals, and the literals of these entries that are resolved away
 abbrev known_at : (ℕ → Bool) → (ℕ → Bool) → List TrailEntry → List TrailEntry → List Lit
 known_at kept resolved entries before = lits_of (entries_passing kept entries) ++ lits_of (entries_passing resolved before)
 
@@ -61,7 +61,7 @@ known-is kept resolved entries before l =
 known-where : (kept resolved : ℕ → Bool) (entries before : List TrailEntry) (l : Lit) → has_lit (lits_of entries) l ≡ true → has_lit (lits_of before) l ≡ true → (kept l.var || resolved l.var) ≡ true → has_lit (known_at kept resolved entries before) l ≡ true
 known-where kept resolved entries before l a b m = known-is kept resolved entries before l ∙ (rw (a, b) m)
 
--- one that is not kept, and not true by these, isn't
+-- a literal that is not kept, and not true by these, is not known
 unknown-where : (kept resolved : ℕ → Bool) (entries before : List TrailEntry) (l : Lit) → kept l.var ≡ false → has_lit (lits_of before) l ≡ false → has_lit (known_at kept resolved entries before) l ≡ false
 unknown-where kept resolved entries before l k b = known-is kept resolved entries before l ∙ (rw (k, b) (none (has_lit (lits_of entries) l)))
   where
@@ -69,7 +69,7 @@ unknown-where kept resolved entries before l k b = known-is kept resolved entrie
     none true = refl
     none false = refl
 
--- the literals of a reason that are not false are the same
+-- the same literals of a reason are not false
 same-open : (kept resolved : ℕ → Bool) (entries before : List TrailEntry) (clause : List Lit) → ((l : Lit) → has_lit (lits_of before) l ≡ true → has_lit (lits_of entries) l ≡ true) → All (λ (l : Lit). (kept l.var || resolved l.var) ≡ true) clause → All (λ (l : Lit). kept l.var ≡ false) (not_false (lits_of before) clause) → not_false (known_at kept resolved entries before) clause ≡ not_false (lits_of before) clause
 same-open kept resolved entries before [] sub met unkept = refl
 same-open kept resolved entries before (l ∷ ls) sub met unkept = step (λ o. same-open kept resolved entries before ls sub (All-tail (λ (m : Lit). (kept m.var || resolved m.var) ≡ true) l ls met) o) (has_lit (lits_of before) (opposite l)) refl unkept
@@ -84,7 +84,7 @@ same-open kept resolved entries before (l ∷ ls) sub met unkept = step (λ o. s
         open-kept (known_at kept resolved entries before) ls l k
         ∙ ap (λ (z : List Lit). l ∷ z) (ih (All-tail (λ (m : Lit). kept m.var ≡ false) l (not_false (lits_of before) ls) o))
 
--- so the reason of an entry that is resolved away forces it
+-- hence the reason of an entry that is resolved away forces it
 still-forced : (kept resolved : ℕ → Bool) (entries before : List TrailEntry) (clause : List Lit) (l : Lit) → ((m : Lit) → has_lit (lits_of before) m ≡ true → has_lit (lits_of entries) m ≡ true) → All (λ (m : Lit). (kept m.var || resolved m.var) ≡ true) clause → kept l.var ≡ false → forced_by (lits_of before) clause ≡ Some l → forced_by (known_at kept resolved entries before) clause ≡ Some l
 still-forced kept resolved entries before clause l sub met k f =
     let r = only_open-is (lits_of before) (not_false (lits_of before) clause) l f in
@@ -93,7 +93,7 @@ still-forced kept resolved entries before clause l sub met k f =
     ap (λ (z : List Lit). only_open (known_at kept resolved entries before) z) same
     ∙ cond-false (has_lit (known_at kept resolved entries before) l) None (Some l) (unknown-where kept resolved entries before l k r.1)
 
--- and the false clause is false
+-- and the false clause stays false
 still-false : (kept resolved : ℕ → Bool) (entries : List TrailEntry) (clause : List Lit) → is_false_clause (lits_of entries) clause ≡ true → All (λ (l : Lit). (kept l.var || resolved l.var) ≡ true) clause → is_false_clause (known_at kept resolved entries entries) clause ≡ true
 still-false kept resolved entries [] f met = refl
 still-false kept resolved entries (l ∷ ls) f met =
@@ -111,7 +111,7 @@ forces kept resolved entries before place l None sub f met k = absurd met
 forces kept resolved entries before place l (Some clause) sub f met k =
     ap (λ (z : Option Lit). with_forced (known_at kept resolved entries before) place z) (still-forced kept resolved entries before clause l sub met k f)
 
--- a hint before others
+-- a hint before the others
 hint-before : (clauses : List (List Lit)) (known : List Lit) (place h n : ℕ) (hs : List ℕ) → hints_fault clauses known place (h ∷ (hs ++ n ∷ [])) ≡ fault_or (after_hint known place (clause_at clauses h)) (λ more. hints_fault clauses more (place + 1) (hs ++ n ∷ []))
 hint-before clauses known place h n [] = refl
 hint-before clauses known place h n (g ∷ gs) = refl
@@ -162,7 +162,7 @@ no-bad_var c kept before (x ∷ xs) f = step (no-bad_var c kept (before ++ x ∷
     step rest true = or_from ((x.lit.var == 0) || nat_lt c.vars x.lit.var) (list_any (λ (l : Lit). (l.var == 0) || nat_lt c.vars l.var) (learnt_line_of kept xs)) here rest
     step rest false = rest
 
--- a variable of an earlier entry is no later one's
+-- a variable of an earlier entry is not that of a later one
 none-later : (c : Clauses) (kept : ℕ → Bool) (before es : List TrailEntry) (k : Lit) → has_lit (lits_of before) k ≡ true → EachFits c before es → list_any (λ w. w == k.var) (map (λ (l : Lit). l.var) (learnt_line_of kept es)) ≡ false
 none-later c kept before [] k h f = refl
 none-later c kept before (x ∷ xs) k h f = step (none-later c kept (before ++ x ∷ []) xs k (known-more before (x ∷ []) k h) f.1) (kept x.lit.var)

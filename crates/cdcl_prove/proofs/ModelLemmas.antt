@@ -1,4 +1,4 @@
--- A trail in which every variable has a value and no clause is false says a model.
+-- For `answers`: a trail in which every variable has a value and no clause is false describes a model.
 use Rattle.std.proofs.Common.{◌≡◌, ℕ, ◌<◌, ◌≤◌, Bool, true, false, not, if◌then◌else◌, List, [], ◌∷◌, ◌++◌, map, Some, None, is_some, unwrap_or, length, ◌+◌, ◌-◌, inl, inr, arith, refl, ap, ◌∙◌, ⊎_elim}
 use Rattle.std.specs.List.{All, list_all}
 use Rattle.std.proofs.lemmas.Bool.{cases_lt, and_cases, and_from, or_left, or_right}
@@ -14,7 +14,7 @@ use Rattle.cnf_encode.specs.Decode.{listed_model}
 use Rattle.trail_prop.specs.Open.{IsClauseSettled, IsComplete, value_known}
 use Rattle.cdcl_prove.specs.Picks.{IsTotal}
 
--- the model says of each variable whether it is true on the trail
+-- the model of a variable is whether the variable is true on the trail
 abbrev pub Reads : ℕ → List Lit → (ℕ → Bool) → Type 0
 Reads vars known model = (v : ℕ) → 1 ≤ v → v ≤ vars → model v ≡ has_lit known (pos_lit v)
 
@@ -31,7 +31,7 @@ lit-true vars known model l r t w h = step l.positive h
     step true h = r l.var w.0 w.1 ∙ pos-known (has_lit known (pos_lit l.var)) (has_lit known (neg_lit l.var)) h (t l.var w.0 w.1)
     step false h = ap not (r l.var w.0 w.1 ∙ h)
 
--- so a clause that is not false is true
+-- hence a clause that is not false is true
 clause-true : (vars : ℕ) (known : List Lit) (model : ℕ → Bool) (clause : List Lit) → Reads vars known model → IsTotal vars known → All (LitWithin vars) clause → is_false_clause known clause ≡ false → clause_holds model clause ≡ true
 clause-true vars known model [] r t w f = cc
 clause-true vars known model (l ∷ ls) r t w f =
@@ -50,7 +50,7 @@ each-true vars known model (d ∷ ds) more r t w c =
 pub model-satisfies : (formula : Clauses) (lines : List Line) (known : List Lit) (model : ℕ → Bool) → Reads formula.vars known model → IsTotal formula.vars known → ClausesWithin formula.vars formula.list → IsComplete (clauses_before formula.list lines) known → Satisfies model formula.list
 model-satisfies formula lines known model r t w c = each-true formula.vars known model formula.list (map (λ (l : Line). l.lits) lines) r t w c
 
--- one value more
+-- one more value
 pub reads-more : (known : List Lit) (values : List Bool) (i : ℕ) (b : Bool) → length values ≡ i → ((v : ℕ) → 1 ≤ v → v ≤ i → listed_model values v ≡ has_lit known (pos_lit v)) → b ≡ has_lit known (pos_lit (i + 1)) → (v : ℕ) → 1 ≤ v → v ≤ i + 1 → listed_model (values ++ b ∷ []) v ≡ has_lit known (pos_lit v)
 reads-more known values i b n before here v low high =
     elim (cases_lt i v) [
@@ -63,7 +63,7 @@ reads-more known values i b n before here v low high =
           get_or_append_left values (b ∷ []) false (v - 1) within ∙ before v low earlier
     ]
 
--- what is known of a variable that is true, or isn't
+-- what is known of a variable that is true, or is not
 pub value-reads : (known : List Lit) (v : ℕ) → unwrap_or (value_known known v) false ≡ has_lit known (pos_lit v)
 value-reads known v = step (has_lit known (pos_lit v)) (has_lit known (neg_lit v))
   where

@@ -1,4 +1,4 @@
--- Variables without a value, and open literals.
+-- For `search`: variables without a value, and their literals.
 use Rattle.std.proofs.Common.{◌≡◌, ℕ, Bool, true, false, not, if◌then◌else◌, List, Some, None, refl, ap}
 use Rattle.std.proofs.lemmas.Bool.{and_from}
 use Rattle.clause_db.specs.declared.lit.Lit.{Lit}

@@ -1,4 +1,4 @@
--- A decision leaves fewer variables without a value, and a clause is empty where its length is 0.
+-- For `search`: a decision leaves fewer variables without a value, and a clause is empty if its length is 0.
 use Rattle.std.proofs.Common.{◌≡◌, ◌-◌, ◌<◌, ◌≤◌, ◌==◌, None, List, [], ◌∷◌, ◌++◌, length, refl, sym, ap, subst, arith, eqb-true, length-append}
 use Rattle.std.proofs.lemmas.Bool.{false_from_ne_true}
 use Rattle.clause_db.specs.declared.lit.Lit.{Lit}
@@ -19,7 +19,7 @@ decision-smaller c before now after e t w o grows is =
     let a = ap length is in
     omega arith
 
--- a trail seen through a view of it
+-- a trail, seen through a view of it
 pub trail-of : (view : TrailView) (c : Clauses) (es : List TrailEntry) → view ≡ record { clauses = c; entries = es } → IsTrail view.clauses view.entries → IsTrail c es
 trail-of view c es e t = subst (λ (v : TrailView). IsTrail v.clauses v.entries) e t
 

@@ -1,4 +1,4 @@
--- What a trail says of its entries by their places, and of the clauses that they name.
+-- For `analysis`: the entries of a trail by their places, and the clauses that they name.
 use Rattle.std.proofs.Common.{◌≡◌, ◌≢◌, ℕ, ◌-◌, ◌<◌, ◌≤◌, Bool, true, false, not, cond, ◌==◌, if◌then◌else◌, List, [], ◌∷◌, ◌++◌, Option, Some, None, length, get_or, take, refl, sym, ap, ◌∙◌, subst, arith, append_assoc, zero, suc, eqb-true}
 use Rattle.std.specs.List.{All}
 use Rattle.std.proofs.lemmas.Bool.{and_parts}
@@ -38,7 +38,7 @@ apart-at c before (x ∷ xs) k (suc n) d h f l = apart-at c (before ++ x ∷ [])
 known-here : (before : List TrailEntry) (x : TrailEntry) → has_lit (lits_of (before ++ x ∷ [])) x.lit ≡ true
 known-here before x = ap (λ (z : List Lit). has_lit z x.lit) (lits-push before x) ∙ has-push_new (lits_of before) x.lit
 
--- two entries of one variable are one
+-- two entries of one variable are the same
 pub same-entry : (c : Clauses) (before es : List TrailEntry) (i j : ℕ) (d : TrailEntry) → EachFits c before es → i < length es → j < length es → (get_or es i d).lit.var ≡ (get_or es j d).lit.var → get_or es i d ≡ get_or es j d
 same-entry c before [] i j d f l m e = absurd (omega arith)
 same-entry c before (x ∷ xs) zero zero d f l m e = refl
@@ -48,7 +48,7 @@ same-entry c before (x ∷ xs) (suc i) (suc j) d f l m e = same-entry c (before 
 
 -- ---- clauses that entries name
 
--- a clause that is there has a number from 1 to their count
+-- a clause in the list has a number from 1 to the length of the list
 pub number-within : (clauses : List (List Lit)) (n : ℕ) (clause : List Lit) → clause_at clauses n ≡ Some clause → (1 ≤ n) × (n ≤ length clauses)
 number-within [] n clause e = cc
 number-within (d ∷ ds) n clause e = step (n == 1) refl (number-within ds (n - 1) clause) e
@@ -86,7 +86,7 @@ opens-take c before es zero f = tt
 opens-take c before [] (suc k) f = tt
 opens-take c before (x ∷ xs) (suc k) f = (f.0.within, f.0.opens, opens-take c (before ++ x ∷ []) xs k f.1)
 
--- so are those of a clause of which all but some of these variables are false
+-- a clause has only variables of the trail if all literals are false except some of these variables
 mostly-within : (c : Clauses) (es : List TrailEntry) (clause : List Lit) → EachOpens c.vars [] es → LitsWithin c.vars (not_false (lits_of es) clause) → LitsWithin c.vars clause
 mostly-within c es [] t w = w
 mostly-within c es (l ∷ ls) t w = step (has_lit (lits_of es) (opposite l)) refl w (mostly-within c es ls t)
@@ -102,7 +102,7 @@ forced-here c es at n d t l r = subst (λ (z : Option ℕ). HasReason c.list (li
 pub reason-number : (c : Clauses) (es : List TrailEntry) (at n : ℕ) (d : TrailEntry) → IsTrail c es → at < length es → (get_or es at d).reason ≡ Some n → (1 ≤ n) × (n ≤ length c.list)
 reason-number c es at n d t l r = forcing-number (lits_of (take at es)) c.list n (get_or es at d).lit (forced-here c es at n d t l r)
 
--- and those of a reason
+-- the literals of a reason are of the trail's variables
 pub reason-within : (c : Clauses) (es : List TrailEntry) (at n : ℕ) (d : TrailEntry) (clause : List Lit) → IsTrail c es → at < length es → (get_or es at d).reason ≡ Some n → clause_at c.list n ≡ Some clause → LitsWithin c.vars clause
 reason-within c es at n d clause t l r k =
     let by : forced_by (lits_of (take at es)) clause ≡ Some (get_or es at d).lit = subst (λ (z : Option (List Lit)). forced_at (lits_of (take at es)) z ≡ Some (get_or es at d).lit) k (forced-here c es at n d t l r) in

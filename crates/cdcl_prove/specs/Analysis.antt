@@ -1,5 +1,5 @@
--- How a line and its hints are taken from a conflict. Each variable that the analysis meets is kept, so that its literal's
--- opposite stands in the line, or resolved away, so that its reason is a hint.
+-- How a line and its hints are taken from a conflict. Each variable that the analysis meets is either kept or resolved away. If it
+-- is kept, the line has the opposite of its literal; if it is resolved away, its reason is a hint.
 use Rattle.std.specs.Prelude.{ℕ, ◌-◌, ◌≡◌, ◌||◌, Bool, true, false, List, [], ◌∷◌, ◌++◌, map, filter, Option, Some, None, unwrap_or, slice_index_or, length}
 use Rattle.std.specs.List.{All}
 use Rattle.clause_db.specs.declared.lit.Lit.{Lit}
@@ -8,72 +8,76 @@ use Rattle.trail_prop.specs.declared.entry.TrailEntry.{TrailEntry}
 use Rattle.cdcl_prove.specs.declared.mark.VariableMark.{VariableMark}
 use Rattle.cdcl_prove.specs.declared.mark.VariableMark.TheVariants.{Unmet, Kept, Resolved}
 
+-- Whether the mark is `Kept`.
 abbrev pub is_kept : VariableMark → Bool
 is_kept Unmet = false
 is_kept Kept = true
 is_kept Resolved = false
 
+-- Whether the mark is `Resolved`.
 abbrev pub is_resolved : VariableMark → Bool
 is_resolved Unmet = false
 is_resolved Kept = false
 is_resolved Resolved = true
 
--- the mark of a variable, the first for variable 1
+-- The mark of a variable. The first mark is of variable 1.
 abbrev pub mark_of : List VariableMark → ℕ → VariableMark
 mark_of marks v = slice_index_or marks (v - 1) Unmet
 
--- the variable is kept; it is resolved away; it was met
+-- Whether the variable is kept.
 abbrev pub keeps : List VariableMark → ℕ → Bool
 keeps marks v = is_kept (mark_of marks v)
 
+-- Whether the variable is resolved away.
 abbrev pub resolves : List VariableMark → ℕ → Bool
 resolves marks v = is_resolved (mark_of marks v)
 
+-- Whether the variable was met.
 abbrev pub has_met : List VariableMark → ℕ → Bool
 has_met marks v = keeps marks v || resolves marks v
 
--- the entries of variables that pass the test
+-- The entries whose variables pass the test.
 abbrev pub entries_passing : (ℕ → Bool) → List TrailEntry → List TrailEntry
 entries_passing test entries = filter (λ e. test e.lit.var) entries
 
--- the number of the clause that forced an entry
+-- The number of the clause that forced an entry.
 abbrev pub reason_of : TrailEntry → ℕ
 reason_of e = unwrap_or e.reason 0
 
--- the line: the opposites of the literals that are kept
+-- The literals of the line: the opposites of those that are kept.
 abbrev pub learnt_line_of : (ℕ → Bool) → List TrailEntry → List Lit
 learnt_line_of kept entries = map (λ e. opposite e.lit) (entries_passing kept entries)
 
--- its hints: the reasons of the entries that are resolved away, in the order of the trail, and the false clause
+-- The hints of the line: the reasons of the entries that are resolved away, in the order of the trail, and then the false clause.
 abbrev pub hints_of : (ℕ → Bool) → List TrailEntry → ℕ → List ℕ
 hints_of resolved entries conflict = map reason_of (entries_passing resolved entries) ++ conflict ∷ []
 
--- there is such a clause, and each of its variables was met
+-- Whether there is a clause, and each of its variables was met.
 abbrev pub IsMetAt : (ℕ → Bool) → Option (List Lit) → Type 0
 IsMetAt met None = ⊥
 IsMetAt met (Some clause) = All (λ l. met l.var ≡ true) clause
 
--- there is a reason, and each of its variables was met
+-- Whether there is a reason, and each of its variables was met.
 abbrev pub IsReasonMet : (ℕ → Bool) → List (List Lit) → Option ℕ → Type 0
 IsReasonMet met clauses None = ⊥
 IsReasonMet met clauses (Some n) = IsMetAt met (clause_at clauses n)
 
--- of each entry that is resolved away the reason's variables were met
+-- Whether for each entry that is resolved away, the variables of its reason were met.
 abbrev pub AreClosed : (ℕ → Bool) → (ℕ → Bool) → List (List Lit) → List TrailEntry → Type 0
 AreClosed resolved met clauses entries = All (λ e. resolved e.lit.var ≡ true → IsReasonMet met clauses e.reason) entries
 
--- the later marks have met more, and resolve the same away
+-- Whether the later marks have met at least as many variables, and resolve the same ones away.
 pub record MeetsMore (earlier later : List VariableMark) : Type 0 where
   pub size : length later ≡ length earlier
   pub still : (v : ℕ) → has_met earlier v ≡ true → has_met later v ≡ true
   pub same : (v : ℕ) → resolves later v ≡ resolves earlier v
 
--- a mark for each variable, and of each entry that is resolved away the reason was met
+-- Whether each variable has a mark, and for each entry that is resolved away, the variables of its reason were met.
 pub record IsClosed (vars : ℕ) (clauses : List (List Lit)) (entries : List TrailEntry) (marks : List VariableMark) : Type 0 where
   pub size : length marks ≡ vars
   pub closed : AreClosed (resolves marks) (has_met marks) clauses entries
 
--- and so was the false clause: a conflict is analysed
+-- Whether a conflict is analysed: the marks are closed, and the variables of the false clause were met.
 pub record IsAnalysed (vars : ℕ) (clauses : List (List Lit)) (entries : List TrailEntry) (conflict : ℕ) (marks : List VariableMark) : Type 0 where
   pub closed : IsClosed vars clauses entries marks
   pub met : IsMetAt (has_met marks) (clause_at clauses conflict)

@@ -1,4 +1,4 @@
--- What comes of asking a searcher that is kept from query to query.
+-- The outcome of asking the incremental searcher.
 use Rattle.std.specs.Prelude.{ℕ, ◌≡◌, true, ⊤}
 use Rattle.pack_defs.specs.Book.{BookView}
 use Rattle.pack_defs.specs.declared.worker.Worker.{Worker}
@@ -8,7 +8,7 @@ use Rattle.cert_types.specs.Refutes.{is_subset}
 use Rattle.cdcl_prove.specs.declared.kept.Asked.{Asked}
 use Rattle.cdcl_prove.specs.declared.kept.Asked.TheVariants as asked
 
--- what came holds of the query; a part is one of its set
+-- What an outcome says: what came holds of the query, and a part is a subset of its set.
 abbrev pub AskedIs : BookView → Task → Worker → ℕ → Asked → Type 0
 AskedIs book task worker last (asked.Came attempt) = AttemptIs book task worker last attempt
 AskedIs book task worker last (asked.Part part) = is_subset part.items task.set ≡ true

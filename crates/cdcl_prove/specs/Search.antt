@@ -1,4 +1,4 @@
--- What a search comes to.
+-- How a search can end.
 use Rattle.std.specs.Prelude.{ℕ, ◌≡◌, ◌≢◌, ◌<◌, ◌+◌, not, true, length, List, Option, Some, None}
 use Rattle.std.specs.List.{list_all}
 use Rattle.clause_db.specs.Clause.{clause_at, is_empty_clause}
@@ -24,49 +24,49 @@ use Rattle.cdcl_prove.specs.Derivation.{Derived, clauses_of}
 use Rattle.cdcl_prove.specs.Formulas.{IsFormulaOf}
 use Rattle.cdcl_prove.specs.Picks.{IsTotal}
 
--- every variable has a value, and no clause is false
+-- A model: every variable has a value, and no clause is false.
 pub record IsModel (d : Derived) : Type 0 where
   pub complete : IsComplete (clauses_of d).list (lits_of d.entries)
   pub total : IsTotal d.formula.vars (lits_of d.entries)
 
--- a false clause, or a model
+-- What a descent ends with: a false clause, or a model.
 abbrev pub DescentIs : Derived → Option Conflict → Type 0
 DescentIs d (Some conflict) = IsFalseAt (lits_of d.entries) (clause_at (clauses_of d).list conflict.clause)
 DescentIs d None = IsModel d
 
--- the line follows and is empty
+-- The last line of a refutation: it follows and is empty.
 pub record IsLast (d : Derived) (line : Line) : Type 0 where
   pub follows : line_fault d.formula.vars (clauses_of d).list line ≡ None
   pub ends : is_empty_clause line.lits ≡ true
 
--- what one step leaves: a line more, a model, or the last line of a refutation
+-- What one step leaves: one more line, a model, or the last line of a refutation.
 abbrev pub SearchStepIs : Derived → Derived → SearchStep → Type 0
 SearchStepIs earlier later step.Learnt = length later.lines ≡ length earlier.lines + 1
 SearchStepIs earlier later step.Model = IsModel later × (later.lines ≡ earlier.lines)
 SearchStepIs earlier later (step.Refuted line) = IsLast later line × (later.lines ≡ earlier.lines)
 
--- how a search ends that has a budget of lines and a query of this number, where the poll's latest answer is `last`
+-- How a search ends, with a budget of lines and a query of this number, if the latest answer of the poll is `last`.
 abbrev pub SearchEndIs : Derived → ℕ → ℕ → ℕ → SearchEnd → Type 0
 SearchEndIs d budget number last outcome.Model = IsModel d
 SearchEndIs d budget number last (outcome.Refuted line) = IsLast d line × (length d.lines < budget)
 SearchEndIs d budget number last outcome.Spent = length d.lines ≡ budget
 SearchEndIs d budget number last (outcome.Moved now) = (last ≡ now) × (now ≢ number)
 
--- the answer is a fit, and names no station with the channel that it has in the last map: each has another there, or none
+-- Whether the answer is a fit, and each station that it names has another channel in the last map, or none.
 abbrev pub IsFitOfChanges : List (ℕ × ℕ) → Answer → Type 0
 IsFitOfChanges last (answer.Fit d) = list_all (λ x. not (has_entry last x)) d ≡ true
 IsFitOfChanges last (answer.Refuted refutation) = ⊥
 IsFitOfChanges last (answer.Spent receipt) = ⊥
 
--- the answer is valid for each query with these stations in its set, of a worker that learns and has a line more than these
--- in its budget, where the lines are derived from the formula of these stations
+-- Whether the answer refutes these stations: it is valid for each query whose set has them, from a learner whose budget exceeds the
+-- number of lines, if the lines are derived from the stations' formula.
 abbrev pub IsRefutationBy : List ℕ → Derived → Answer → Type 0
 IsRefutationBy subset d answer = (book : BookView) (task : Task) (worker : Worker) → learns worker.kind ≡ true →
     IsFormulaOf book subset d.formula → is_subset subset task.set ≡ true → length d.lines < worker.budget →
     IsValid book task worker answer
 
--- the answer is valid for each query, of a worker that learns and has as many lines in its budget, where the lines are derived
--- from the formula of the query's set
+-- Whether the answer is a receipt: it is valid for each query, from a learner with a budget of as many lines, if the lines are derived
+-- from the formula of the query's set.
 abbrev pub IsReceiptBy : Derived → Answer → Type 0
 IsReceiptBy d answer = (book : BookView) (task : Task) (worker : Worker) → learns worker.kind ≡ true →
     IsFormulaOf book task.set d.formula → length d.lines ≡ worker.budget → IsValid book task worker answer

@@ -1,4 +1,4 @@
-//! What the end of a search says of the query: the last step, from a model or a derivation to an answer.
+//! The last step of a search: from a model, a refutation or a spent budget to an answer.
 
 ghost use Rattle.std.specs.Prelude.{ℕ, ◌≡◌, ◌≤◌, IfOk};
 ghost use Rattle.clause_db.specs.Clause.{has_lit, pos_lit};
@@ -21,8 +21,8 @@ use rup_check::line::{Line, Log};
 use std::alloc::{AllocError as NoMemory, Global};
 use trail_prop::trail::Trail;
 
-/// The fit that a model of the set's formula says: the stations whose channel is another than in the last map, or that had
-/// none.
+/// Returns the fit that a model of the set's formula describes. The fit names the stations that have another channel in the last
+/// map, or none there. Fails only if memory runs out.
 pub(crate) fn fit(
     alloc: Global,
     book: &Book,
@@ -40,7 +40,7 @@ pub(crate) fn fit(
     Ok(Answer::Fit(delta(alloc, &task.last, &map)?))
 }
 
-// Whether each variable of the trail is true, variable 1 first.
+// Returns whether each variable is true on the trail, variable 1 first.
 fn values(alloc: Global, trail: &Trail) -> Result<Vec<bool>, NoMemory>
     ensures { IfOk result (λ values. (v : ℕ) → 1 ≤ v → v ≤ trail.now.clauses.vars → listed_model values.items v ≡ has_lit (lits_of trail.now.entries) (pos_lit v)) }
 {
@@ -51,8 +51,8 @@ fn values(alloc: Global, trail: &Trail) -> Result<Vec<bool>, NoMemory>
     Ok(values)
 }
 
-/// The refutation of a subset by the derivation from its formula and the last line, which is empty, for a worker that
-/// learns.
+/// Returns the refutation of a subset of stations by the lines derived from their formula and a last line, which is empty. Fails
+/// only if memory runs out.
 pub(crate) fn refutation(
     alloc: Global,
     subset: &[u32],
@@ -72,7 +72,7 @@ pub(crate) fn refutation(
     }))
 }
 
-/// The receipt of a derivation from the set's formula that has as many lines as the budget, for a worker that learns.
+/// Returns the lines derived from the set's formula as a receipt. There must be as many as the budget has.
 pub(crate) fn receipt(derivation: Derivation) -> Answer
     ensures { IsReceiptBy derivation result }
 {

@@ -1,4 +1,4 @@
-//! The solver of a worker that learns, as the layers above see it.
+//! The solver of a worker that learns, as its callers see it.
 
 ghost use Rattle.std.specs.Prelude.{ℕ, ◌≡◌, IfOk, IfSome, IsTrue, length, true};
 ghost use Rattle.pack_defs.specs.Lists.{is_ascending};
@@ -21,7 +21,8 @@ use cert_types::poll::{Attempt, Poll};
 use cert_types::task::Task;
 use cnf_encode::encode::encode;
 use first_looks::looks::{FirstLooks, Looked};
-use kept_search::searcher::{LogLength, Searcher};
+use kept_search::searcher::Searcher;
+use kept_search::suggestion::LogLength;
 use kept_search::ties::Ties;
 use pack_defs::book::Book;
 use pack_defs::channel_map::ChannelMap;
@@ -29,8 +30,8 @@ use pack_defs::worker::{Kind, Worker};
 use std::alloc::{AllocError as NoMemory, Global};
 use std::marker::Model;
 
-/// A solver that decides and propagates over the packing formula, and learns a line of a proof from each conflict, once first
-/// looks found no fit. Contracts see it as its worker, which is one that learns.
+/// A solver that learns clauses. It tries quick fits first, then searches over the packing formula and learns a line of a proof
+/// from each conflict. Contracts see the solver as its worker, which is one that learns.
 #[derive(Drop)]
 pub struct Cdcl {
     worker: Worker,
@@ -39,14 +40,14 @@ pub struct Cdcl {
     searched: Searched,
 }
 
-/// How many queries that no first look answered came to what. A count that is full stays.
+/// Counts of queries that no quick fit answered, by what the incremental search returned. A count saturates at the greatest number.
 #[derive(Clone, Copy, Debug, PartialEq, Eq)]
 pub struct Searched {
-    /// A fit of the searcher that is kept from query to query.
+    /// Queries for which the incremental search found a fit.
     pub fits: u64,
-    /// Its refutation.
+    /// Queries that the incremental search refuted.
     pub refuted: u64,
-    /// It came to no answer that was let through, so that a search began from nothing.
+    /// Queries that the incremental search did not answer, or whose answer was rejected, so that a new search began.
     pub left: u64,
 }
 
@@ -63,9 +64,8 @@ impl Model for Cdcl {
 }
 
 impl Cdcl {
-    /// The solver of a worker that learns, which spends the worker's budget in lines, and by the worker's seed breaks the
-    /// ties of the order in which variables are decided. Where a proof is long it searches for a shorter one. The only error
-    /// is want of memory.
+    /// Returns the solver of a worker that learns. The worker's budget counts lines, and its seed breaks ties in the order of
+    /// decisions. If a proof is long, the solver searches for a shorter one. Fails only if memory runs out.
     pub fn new(alloc: Global, worker: &Worker) -> Result<Cdcl, NoMemory>
         requires { worker.now.kind ≡ Kind.Cdcl }
         ensures { IfOk result (λ solver. solver ≡ worker.now) }
@@ -73,8 +73,8 @@ impl Cdcl {
         Cdcl::with_logs(alloc, worker, LogLength::Short)
     }
 
-    /// The same solver, which searches for a shorter proof only where one is longer than the worker's budget: for auctions whose
-    /// proofs no one writes or reads. The only error is want of memory.
+    /// Returns the same solver, except that it searches for a shorter proof only if a proof exceeds the worker's budget. Use it for
+    /// auctions whose proofs nobody stores or reads. Fails only if memory runs out.
     pub fn with_long_proofs(alloc: Global, worker: &Worker) -> Result<Cdcl, NoMemory>
         requires { worker.now.kind ≡ Kind.Cdcl }
         ensures { IfOk result (λ solver. solver ≡ worker.now) }
@@ -82,7 +82,7 @@ impl Cdcl {
         Cdcl::with_logs(alloc, worker, LogLength::Any)
     }
 
-    // The solver of a worker that learns, whose searcher's logs are of this length.
+    // Returns the solver of a worker that learns, whose incremental searcher wants logs of this length.
     fn with_logs(alloc: Global, worker: &Worker, logs: LogLength) -> Result<Cdcl, NoMemory>
         requires { worker.now.kind ≡ Kind.Cdcl }
         ensures { IfOk result (λ solver. solver ≡ worker.now) }
@@ -99,38 +99,44 @@ impl Cdcl {
         })
     }
 
-    /// How many queries each first look answered so far: the station's last fit, a free channel, one station that makes way.
+    /// Returns how many queries each quick fit has answered so far: the station's last fit, a free channel, one station that makes
+    /// way.
     pub fn looked(&self) -> Looked {
         self.looks.looked()
     }
 
-    /// How many queries the kept searcher answered so far, and how many it left.
+    /// Returns how many queries the incremental searcher has answered so far, and how many it has not.
     pub fn searched(&self) -> Searched {
         self.searched
     }
 
-    /// Tries to answer a query. It looks first whether the tested station's last fit still fits, whether the station has a
-    /// free channel, and whether one station can make way for it; only then it searches. What it says is valid for the book,
-    /// the query and its worker: the channels that make the last map one of the set; a proof that the set does not fit, of at
-    /// most the worker's budget of lines; or, where so many lines are learnt, a receipt of them. Where the poll answers that
-    /// another query stands, it stops. Of each station what its last fit changed is kept for its next query.
+    /// Tries to answer a query. The answer is valid for the book, the query and the worker, and is one of these:
     ///
-    /// It searches first with what it learnt from the queries before, by two policies, each up to as many conflicts as the
-    /// budget has lines for each station without a channel; a proof that is longer than the budget, or long where short ones
-    /// are wanted, is searched for once or twice more. What that suggests is checked before it is said. Where it comes to no
-    /// answer, a search begins anew, with the whole budget: over the stations that it says do not fit, if it does, and then
-    /// over the whole set, of which a receipt always is. In each search the poll is asked before the first line and then
-    /// now and again (`LINES_BETWEEN_POLLS` of `policy`).
+    /// - a fit: the channels to write over the last map;
+    /// - a proof that the set does not fit, with at most the worker's budget of lines;
+    /// - a receipt of as many learnt lines as the budget.
     ///
-    /// The seed decides which of two variables comes first that are equally active. With seed 0 nothing is left to chance:
-    /// that is their places in a heap, which begins in the variables' order. Any other seed gives each variable an activity
-    /// by chance that is below what a preference or a conflict adds: once for the searcher that is kept, and in the stream of
-    /// the query's number for a search that begins anew. So a solver that is asked the same queries in the same order learns
-    /// the same lines each time.
+    /// If the poll reports that another query is current, the attempt stops.
+    ///
+    /// Quick fits come first: the tested station's last fit, a free channel, and one station that makes way. What a station's last
+    /// fit changed is stored for its next query.
+    ///
+    /// The incremental searcher comes next, with the clauses that it has learnt from earlier queries. It uses two policies, each
+    /// with up to `budget` conflicts for each station without a channel. If its proof exceeds the budget, or is long while short
+    /// proofs are wanted, it searches for a shorter one, once or twice. Its suggestion is checked before it becomes an answer.
+    ///
+    /// Otherwise a new search begins, with the whole budget. If the searcher claims that some stations do not fit, the search is
+    /// over these first. Then it is over the complete set. A receipt is always of the complete set. The poll is called before the
+    /// first line of each search and then at intervals (`LINES_BETWEEN_POLLS` of `policy`).
+    ///
+    /// The seed decides which of two equally active variables comes first. With seed 0 their places in a heap decide, which begins
+    /// in the order of the variables. Any other seed gives each variable a random initial activity, below what a preference or a
+    /// conflict adds. The incremental searcher draws these once, and a new search draws them from the stream of the query's number.
+    /// So a solver learns the same lines each time if it is asked the same queries in the same order.
     ///
     /// # Errors
     ///
-    /// Want of memory.
+    /// Fails only if memory runs out.
     pub fn attempt<P: Poll>(
         &mut self,
         alloc: Global,
@@ -151,8 +157,8 @@ impl Cdcl {
         Ok(attempt)
     }
 
-    // Tries to answer a query by a search: by the searcher that is kept; where what it says is not let through, by a search
-    // over the stations that it named; and else over the whole set.
+    // Tries to answer a query by search: by the incremental searcher, then over the stations that it named, and then over the
+    // complete set.
     fn search<P: Poll>(
         &mut self,
         alloc: Global,
@@ -196,7 +202,7 @@ impl Cdcl {
     }
 }
 
-// The counts, once the searcher was asked once more.
+// Returns the counts after one more call of the incremental searcher.
 fn counted(searched: Searched, asked: &Asked) -> Searched {
     let mut searched = searched;
     match asked {
@@ -210,12 +216,12 @@ fn counted(searched: Searched, asked: &Asked) -> Searched {
     searched
 }
 
-// What the tested station's last fit changed.
+// Returns what the tested station's last fit changed.
 fn kept_fit(looks: &FirstLooks, station: Option<u32>) -> Option<&ChannelMap> {
     looks.kept(station?)
 }
 
-// Tries to refute a part of the set.
+// Tries to refute a part of the set. `None` if the search found a model or spent its budget, which decides nothing of the set.
 fn attempt_within<P: Poll>(
     alloc: Global,
     book: &Book,
@@ -240,7 +246,7 @@ fn attempt_within<P: Poll>(
     }
 }
 
-// Tries the whole set.
+// Tries the complete set.
 fn attempt_whole<P: Poll>(
     alloc: Global,
     book: &Book,
@@ -266,7 +272,7 @@ fn attempt_whole<P: Poll>(
     }
 }
 
-// Returns the fit that a model of the whole set's formula says, as an attempt at the query.
+// Returns the fit that a model of the complete set's formula describes, as an attempt at the query.
 fn say_fit(
     alloc: Global,
     book: &Book,
@@ -282,7 +288,7 @@ fn say_fit(
     Ok(Attempt::Said(answer))
 }
 
-// Searches over the packing formula of a set until the search ends. Returns what it derived, and how it ended.
+// Searches over the packing formula of a set until the search ends. Returns what was derived, and how the search ended.
 fn search_set<P: Poll>(
     alloc: Global,
     book: &Book,
@@ -301,7 +307,7 @@ fn search_set<P: Poll>(
     Ok((search.into_derivation(), outcome))
 }
 
-// A search over the packing formula of a set, guided by the query's last map and this seed.
+// Returns a search over the packing formula of a set, guided by the query's last map and this seed.
 fn begin(
     alloc: Global,
     book: &Book,
@@ -319,7 +325,8 @@ fn begin(
     Search::new(alloc, formula, guide)
 }
 
-// The guide by the last map: each of its channels is tried first, and the stations without one before all others.
+// Returns the guide by the last map. A station's channel in the last map is tried first, and stations without one come before all
+// others.
 fn guide_by(
     alloc: Global,
     book: &Book,

@@ -1,4 +1,4 @@
-//! What guides the search: which variable comes next, and with which value.
+//! Heuristics: which variable is decided next, and with which value.
 
 ghost use Rattle.std.specs.Prelude.{◌≡◌, IfSome};
 ghost use Rattle.trail_prop.specs.Entries.{lits_of};
@@ -12,20 +12,20 @@ use std::alloc::{AllocError as NoMemory, Global};
 use trail_prop::entry::TrailEntry;
 use trail_prop::trail::Trail;
 
-/// What guides the search: the order in which variables are decided, the value that each is tried with first, and the
-/// level at which each got its value. Nothing that the solver says rests on it.
+/// The order in which variables are decided, the value that is tried first for each, and the level at which each got its value. No
+/// answer depends on these.
 #[derive(Drop)]
 pub(crate) struct DecisionGuide {
     order: ActivityOrder,
-    // For each variable, from place 1 on.
+    // For each variable, indexed by its number.
     phases: Vec<bool>,
     levels: Vec<u32>,
-    // So many entries of the trail have their levels noted.
+    // The number of entries of the trail whose levels are recorded.
     noted: usize,
 }
 
 impl DecisionGuide {
-    /// No variable is preferred, so that the ties alone order them, and each is tried as false.
+    /// Returns a guide without preferences: only the ties order the variables, and each is tried as false first.
     pub(crate) fn new(alloc: Global, vars: u32, ties: Ties) -> Result<DecisionGuide, NoMemory> {
         let mut phases = Vec::new(alloc);
         phases.resize(vars as usize + 1, false)?;
@@ -39,13 +39,13 @@ impl DecisionGuide {
         })
     }
 
-    /// Prefers a variable by so many steps, and tries it as true first.
+    /// Prefers a variable by this many steps, and tries it as true first.
     pub(crate) fn prefer(&mut self, var: u32, steps: f64) {
         self.set_phase(var as usize, true);
         self.order.raise(var, steps);
     }
 
-    /// Notes the levels of the entries that are new on the trail.
+    /// Records the levels of the new entries of the trail.
     pub(crate) fn note(&mut self, entries: &[TrailEntry]) {
         for at in self.noted..entries.len() {
             let var = entries[at].lit.var as usize;
@@ -56,8 +56,8 @@ impl DecisionGuide {
         self.noted = entries.len();
     }
 
-    /// Before the trail is cut above a level: its variables from there on can be decided again, with the values that they
-    /// have now.
+    /// Releases the variables above a level, just before the trail is cut there. They can be decided again, with the values that
+    /// they have now.
     pub(crate) fn release(&mut self, entries: &[TrailEntry], level: u32) -> Result<(), NoMemory> {
         for at in (0..entries.len()).rev() {
             let entry = entries[at];
@@ -72,14 +72,14 @@ impl DecisionGuide {
         Ok(())
     }
 
-    /// A conflict involves the variable. Whether it got its value at this level.
+    /// Raises the activity of a variable that a conflict involves. Returns whether the variable got its value at this level.
     pub(crate) fn involve(&mut self, var: u64, level: u32) -> bool {
         self.order
             .raise(var.min(u32::MAX as u64) as u32, STEPS_OF_CONFLICT);
         self.level(var) == level
     }
 
-    /// The level at which a variable got its latest value.
+    /// Returns the level at which a variable got its latest value.
     pub(crate) fn level(&self, var: u64) -> u32 {
         let v = var as usize;
         if v < self.levels.len() {
@@ -89,12 +89,12 @@ impl DecisionGuide {
         }
     }
 
-    /// A conflict is done with: what is met from now on counts for more.
+    /// Ends a conflict: later ones raise activities by more.
     pub(crate) fn age(&mut self) {
         self.order.age();
     }
 
-    /// The literal to decide next; none where every variable has a value.
+    /// Returns the literal to decide next, or `None` if every variable has a value.
     pub(crate) fn pick(&mut self, trail: &Trail) -> Option<Lit>
         ensures { PickIs trail.now.clauses.vars (lits_of trail.now.entries) result }
     {
@@ -107,7 +107,7 @@ impl DecisionGuide {
         }
     }
 
-    // The most active variable of the heap that has no value. Those before it leave the heap.
+    // Returns the most active variable of the heap that has no value. The variables before it leave the heap.
     fn most_active(&mut self, trail: &Trail) -> Option<u64>
         ensures { IfSome result (λ v. IsOpenVariable trail.now.clauses.vars (lits_of trail.now.entries) v) }
     {
@@ -121,7 +121,7 @@ impl DecisionGuide {
         None
     }
 
-    // The variable with its phase.
+    // Returns the variable's literal by its phase.
     fn literal(&self, var: u64) -> Lit
         ensures { result.var ≡ var }
     {
@@ -139,7 +139,7 @@ impl DecisionGuide {
     }
 }
 
-// The variables from 1 to so many, each as active as the ties draw it; where that is alike, in their order.
+// Returns the order of the variables 1 to `vars`, with the activities that `ties` draws. Equally active ones stay in their order.
 fn ordered(alloc: Global, vars: u32, ties: Ties) -> Result<ActivityOrder, NoMemory> {
     let mut ties = ties;
     let mut order = ActivityOrder::new(alloc, vars, VARIABLE_DECAY)?;
@@ -150,7 +150,7 @@ fn ordered(alloc: Global, vars: u32, ties: Ties) -> Result<ActivityOrder, NoMemo
     Ok(order)
 }
 
-// The first variable that has no value.
+// Returns the first variable without a value.
 fn first_open(trail: &Trail) -> Option<u64>
     ensures { VariableIs trail.now.clauses.vars (lits_of trail.now.entries) result }
 {

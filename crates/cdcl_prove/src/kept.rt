@@ -1,4 +1,4 @@
-//! What the searcher that is kept from query to query says of one, once it is checked.
+//! The incremental searcher's part in an attempt: its suggestions are checked before they become answers.
 
 ghost use Rattle.std.specs.Prelude.{ℕ, IfOk, IsTrue};
 ghost use Rattle.pack_defs.specs.Book.{BookView};
@@ -22,19 +22,19 @@ use pack_defs::items::Items;
 use pack_defs::worker::Worker;
 use std::alloc::{AllocError as NoMemory, Global};
 
-/// What came of asking the searcher.
+/// The outcome of asking the incremental searcher.
 #[derive(Debug, Drop)]
 pub(crate) enum Asked {
-    /// An answer that was let through, or another query stands.
+    /// An accepted answer, or the report that another query is current.
     Came(Attempt),
-    /// It says that these stations of the set do not fit, but its log of that is longer than the worker may say, or at fault.
+    /// Stations of the set that the searcher claims not to fit, with a log that is invalid or longer than the worker's budget.
     Part(Vec<u32>),
-    /// It came to nothing.
+    /// No answer.
     Open,
 }
 
-/// Asks the searcher, which may come to as many conflicts as the worker's budget has lines at each tested station by each of its
-/// policies, and checks what it says.
+/// Asks the incremental searcher and checks what it suggests. By each of its policies, the searcher may use as many conflicts for
+/// each tested station as the worker's budget has lines. Fails only if memory runs out.
 pub(crate) fn ask<P: Poll>(
     alloc: Global,
     book: &Book,
@@ -65,7 +65,7 @@ pub(crate) fn ask<P: Poll>(
     Ok(Asked::Open)
 }
 
-// Checks what the searcher says. Where that is at fault but for the length of a log, the searcher forgets all that it knows.
+// Checks a suggestion. If it is invalid for another reason than its length, the searcher forgets all that it has learnt.
 fn judged(
     alloc: Global,
     book: &Book,
@@ -92,7 +92,7 @@ fn judged(
     }
 }
 
-// The suggestion as an answer.
+// Returns the suggestion as an answer.
 fn answer_of(suggestion: Suggestion) -> Answer {
     match suggestion {
         Suggestion::Fit(fit) => Answer::Fit(fit),
@@ -103,7 +103,7 @@ fn answer_of(suggestion: Suggestion) -> Answer {
     }
 }
 
-// The stations that an answer says not to fit, if they are of the set.
+// Returns the stations that a rejected answer claims not to fit, if they are of the set.
 fn part_of(alloc: Global, task: &Task, fault: CertifyFault) -> Result<Asked, NoMemory>
     requires { IsTrue (is_ascending task.now.set) }
     ensures { IfOk result (λ asked. (book : BookView) (worker : Worker) (last : ℕ) → AskedIs book task.now worker last asked) }

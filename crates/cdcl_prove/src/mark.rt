@@ -1,4 +1,4 @@
-//! The marks by which a conflict is analysed.
+//! The marks of conflict analysis, one for each variable.
 
 ghost use Rattle.std.specs.Prelude.{ℕ, ◌≡◌, ◌≤◌, ◌⊎◌, true, OnOk, length};
 ghost use Rattle.cdcl_prove.specs.Analysis.{has_met, mark_of, resolves};
@@ -10,11 +10,11 @@ use std::marker::Model;
 /// What an analysis of a conflict has done with a variable.
 #[derive(Clone, Copy, Debug, PartialEq, Eq)]
 pub(crate) enum VariableMark {
-    /// It has not met it.
+    /// The analysis has not met the variable.
     Unmet,
-    /// It has met it, and keeps its literal for the line.
+    /// The analysis has met the variable, and keeps its literal for the line.
     Kept,
-    /// It has met it, and resolves its literal away by its reason.
+    /// The analysis has met the variable, and resolves its literal away by the reason.
     Resolved,
 }
 
@@ -34,14 +34,14 @@ impl Model for VariableMarks {
 }
 
 impl VariableMarks {
-    /// No mark.
+    /// Returns no marks.
     pub(crate) fn new(alloc: Global) -> VariableMarks {
         VariableMarks {
             marks: Vec::new(alloc),
         }
     }
 
-    /// A mark for each of so many variables, each unmet.
+    /// Gives each of this many variables the mark `Unmet`. Fails only if memory runs out.
     pub(crate) fn reset(&mut self, vars: u32) -> Result<(), NoMemory>
         ensures size { OnOk result (length self.new ≡ vars) }
         ensures unmet { OnOk result ((v : ℕ) → mark_of self.new v ≡ Unmet) }
@@ -51,7 +51,7 @@ impl VariableMarks {
         Ok(())
     }
 
-    /// The mark of a variable.
+    /// Returns the mark of a variable.
     pub(crate) fn get(&self, var: u64) -> VariableMark
         requires from_one { 1 ≤ var }
         requires within { var ≤ length self.now }
@@ -60,7 +60,7 @@ impl VariableMarks {
         self.marks[(var - 1) as usize]
     }
 
-    /// Keeps a variable that is unmet. Whether it was.
+    /// Keeps a variable that is unmet. Returns whether it was unmet.
     pub(crate) fn meet(&mut self, var: u64) -> bool
         requires from_one { 1 ≤ var }
         requires within { var ≤ length self.old }

@@ -1,8 +1,4 @@
-//! The whole search: step after step, until it is decided, its budget is spent or another query stands.
-//!
-//! `solve` asks the poll now and then, and ends where it answers another number. Else it takes a step: one that learns a line
-//! is followed by the next, as long as fewer lines are learnt than the budget has; a model, or the last line of a refutation,
-//! ends it.
+//! The complete search: step after step, until the formula is decided, the budget is spent or another query is current.
 
 ghost use Rattle.std.specs.Prelude.{◌≡◌, ◌≤◌, IfOk, length};
 ghost use Rattle.cdcl_prove.specs.Search.{SearchEndIs};
@@ -22,13 +18,13 @@ pub(crate) enum SearchEnd {
     Refuted(Line),
     /// The budget of lines is spent.
     Spent,
-    /// The poll answered another number.
+    /// The poll reported that another query, of this number, is current.
     Moved { now: u64 },
 }
 
-/// Searches until there is a model or a refutation, or so many lines are learnt, or the poll answers another number than
-/// this one. The poll is asked before the first line, and then now and again (`LINES_BETWEEN_POLLS`
-/// of `policy`).
+/// Searches until there is a model or a refutation, `budget` lines are learnt, or the poll reports another number than this one.
+/// The poll is called before the first line and then at intervals (`LINES_BETWEEN_POLLS` of `policy`). Fails only if memory runs
+/// out.
 pub(crate) fn solve<P: Poll>(
     alloc: Global,
     search: &mut Search,

@@ -1,5 +1,5 @@
--- A fit of a query that names the tested station is without fault exactly where its own entries are of the set, each on its
--- domain, and no pair of theirs is violated.
+-- For `changes`: a fit that names the tested station is valid exactly if its own entries are of the set and on their domains, and
+-- no pair of their stations is violated.
 use Rattle.std.proofs.Common.{◌≡◌, ℕ, Bool, true, false, not, ◌==◌, ◌&&◌, ◌||◌, List, find, Option, Some, None, is_none, option_map, inl, inr, refl, ap, subst, eqb-true, sym, ◌∙◌}
 use Rattle.std.proofs.lemmas.Bool.{and_from, and_parts, both_ways, false_from_ne_true, not-true, or_cases}
 use Rattle.pack_defs.specs.Book.{BookView, domain_of}
@@ -22,7 +22,7 @@ use Rattle.cert_types.proofs.Validity.{fit-clean, none_is}
 pub query-rises : (book : BookView) (task : Task) → IsQuery book task → is_ascending task.set ≡ true
 query-rises book task query = (query-parts book task query).rises
 
--- a station of the set is the tested one, which the fit names, or stands in the last map
+-- a station of the set is the tested one, which the fit names, or is in the last map
 has-each : (station : Option ℕ) (set : List ℕ) (last delta : List (ℕ × ℕ)) → has_others station set last ≡ true → is_named station delta ≡ true → (s : ℕ) → is_in set s ≡ true → has_station (overlaid last delta) s ≡ true
 has-each None set last delta others named s h = cc
 has-each (Some t) set last delta others named s h =
@@ -59,7 +59,7 @@ fits-changed book task delta query named on e =
     } in
     ap (option_map place_of) (faultless book task.set map clean)
 
--- ---- and back
+-- ---- the converse
 
 pub fit-on_domains : (book : BookView) (task : Task) (delta : List (ℕ × ℕ)) → IsAscending delta → fit_fault book task delta ≡ None → is_on_domains book task.set delta ≡ true
 fit-on_domains book task delta a e =
@@ -74,7 +74,7 @@ fit-violates_none book task delta e =
     let map = overlaid task.last delta in
     none-changed_violated book map delta (no-violation book task.set map (mapped-none place_of (first_fault book task.set map) e))
 
--- ---- the test by its steps
+-- ---- the test, step by step
 
 and-no : (b c : Bool) → c ≡ false → false ≡ (b && c)
 and-no true c e = sym e
@@ -105,13 +105,13 @@ on-domains book task delta query named on =
     and-yes (is_named task.station delta) (is_none (fit_fault book task delta)) (not violates) named
     (none-exactly (not violates) (fit_fault book task delta) (λ h. fits-changed book task delta query named on (not-true violates h)) (λ e. ap not (fit-violates_none book task delta e)))
 
--- what the search is to know at `fits_by_changes`
+-- the rules for `fits_by_changes`
 pub ruleset by_changes = (query-rises, not-named, off-domains, on-domains)
 
--- ---- what its callers conclude
+-- ---- what the callers conclude
 
 pub without-fault : {A : Type 0} (fits named : Bool) (fault : Option A) → fits ≡ (named && is_none fault) → fits ≡ true → fault ≡ None
 without-fault fits named fault e h = none_is fault (and_parts named (is_none fault) (sym e ∙ h)).1
 
--- what the search is to know at its callers
+-- the rules for its callers
 pub ruleset fault_none = (without-fault)

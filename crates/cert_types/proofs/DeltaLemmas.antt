@@ -1,4 +1,4 @@
--- The entries of a map that another one lacks, put over that one, give the map.
+-- For `delta`: the entries of a map that another one lacks, written over that one, give the map.
 use Rattle.std.proofs.Common.{◌≡◌, ℕ, ◌<◌, Bool, true, false, not, cond, ◌==◌, ◌||◌, nat_lt, List, [], ◌∷◌, filter, refl, sym, ap, ◌∙◌, subst, arith, ⊎_elim, inl, inr, eqb-true, eq-eqb, ne_eqb}
 use Rattle.std.specs.List.{All}
 use Rattle.std.proofs.lemmas.Bool.{and_left, and_from, and_parts, lt-ltb, or_cases, or_left, or_right, cases_order, cond-true, cond-false, false_from_ne_true, false≢true}
@@ -9,7 +9,7 @@ use Rattle.pack_defs.proofs.Chains.{ascending-skip}
 use Rattle.pack_defs.proofs.MapLemmas.{stations, overlaid-none, overlaid-first, overlaid-same, overlaid-above}
 use Rattle.pack_defs.proofs.Words.{below-later, ascending-rest, same_entry-same, list_any-map}
 
--- some entries of an ascending map ascend
+-- some entries of an ascending map ascend too
 kept-above : (p : ℕ × ℕ → Bool) (b : ℕ) (xs : List (ℕ × ℕ)) → is_ascending (b ∷ stations xs) ≡ true → is_ascending (b ∷ stations (filter p xs)) ≡ true
 kept-above p b [] a = refl
 kept-above p b (x ∷ xs) a =
@@ -29,7 +29,7 @@ kept-ascends p (x ∷ xs) a =
       | false ↦ kept-ascends p xs (ascending-rest x.0 (stations xs) a)
     ]
 
--- the test says of each entry of the second map whether the first one lacks it
+-- the test holds of an entry of the second map exactly if the first map lacks the entry
 abbrev Lacks : (ℕ × ℕ → Bool) → List (ℕ × ℕ) → List (ℕ × ℕ) → Type 0
 Lacks p last xs = All (λ (y : ℕ × ℕ). p y ≡ not (has_entry last y)) xs
 
@@ -50,7 +50,7 @@ none-below : (last : List (ℕ × ℕ)) (y : ℕ × ℕ) → is_ascending (y.0 �
 none-below last y a =
     false_from_ne_true (has_entry last y) (λ h. let below : y.0 < y.0 = below-later y.0 (stations last) y.0 a (entry-station last y h) in absurd (omega arith))
 
--- the first entry of the last map passed over, the test says the same of later entries
+-- after the first entry of the last map, the test says the same of later entries
 lacks-rest : (p : ℕ × ℕ → Bool) (l : ℕ × ℕ) (ls xs : List (ℕ × ℕ)) → is_ascending (l.0 ∷ stations xs) ≡ true → Lacks p (l ∷ ls) xs → Lacks p ls xs
 lacks-rest p l ls [] a k = All-nil (λ (y : ℕ × ℕ). p y ≡ not (has_entry ls y))
 lacks-rest p l ls (x ∷ xs) a k =
@@ -116,7 +116,7 @@ lacking-gives p (l ∷ ls) (x ∷ xs) a b h k =
         ap (λ (z : List (ℕ × ℕ)). overlaid (l ∷ ls) z) (one-kept p x xs keep)
         ∙ (overlaid-same l x ls (filter p xs) (kept-above p x.0 xs b) (sym same) ∙ ap (λ (z : List (ℕ × ℕ)). x ∷ z) rest)
 
--- in the words of the contract
+-- the same in the terms of the contract
 pub lacking-whole : (last xs d : List (ℕ × ℕ)) → IsAscending last → IsAscending xs → ((s : ℕ) → has_station last s ≡ true → has_station xs s ≡ true) → d ≡ filter (λ x. not (has_entry last x)) xs → overlaid last d ≡ xs
 lacking-whole last xs d a b h e =
     ap (λ (z : List (ℕ × ℕ)). overlaid last z) e

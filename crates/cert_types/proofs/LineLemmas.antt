@@ -1,4 +1,4 @@
--- The first line of a log that fails a test.
+-- For `first_line`: the first line of a log that fails a test.
 use Rattle.std.proofs.Common.{◌≡◌, ℕ, ◌+◌, ◌≤◌, Bool, true, false, ◌&&◌, if◌then◌else◌, List, [], ◌∷◌, ◌++◌, Option, Some, None, option_map, is_none, refl, sym, ap, ◌∙◌, arith, ◌<◌, length, take, drop, get_or}
 use Rattle.std.proofs.Math.Nat.{min-eq_left, min-eq_right}
 use Rattle.std.proofs.lemmas.List.{get_or_default, take_more}
@@ -13,7 +13,7 @@ use Rattle.rup_check.specs.Packed.{line_at, no_line}
 use Rattle.rup_check.proofs.Reading.{clauses-more}
 use Rattle.cert_types.specs.FirstLine.{first_line, does_follow, passes_both, lesser}
 
--- it stands at the first place or behind it
+-- the first line that fails is at the first place or after it
 pub first-from : (test : List (List Lit) → Line → List Line → Bool) (clauses : List (List Lit)) (place : ℕ) (lines : List Line) (n : ℕ) → first_line test clauses place lines ≡ Some n → place ≤ n
 first-from test clauses place [] n e = cc
 first-from test clauses place (line ∷ lines) n e =
@@ -23,7 +23,7 @@ first-from test clauses place (line ∷ lines) n e =
     ] in
     go (test clauses line lines) e
 
--- a place and one behind it, or none
+-- a place and a later one, if any
 lesser-first : (place : ℕ) (later : Option ℕ) → ((n : ℕ) → later ≡ Some n → place ≤ n) → lesser (Some place) later ≡ Some place
 lesser-first place None h = refl
 lesser-first place (Some n) h = ap Some (min-eq_left (h n refl))
@@ -32,8 +32,7 @@ lesser-second : (place : ℕ) (later : Option ℕ) → ((n : ℕ) → later ≡ 
 lesser-second place None h = refl
 lesser-second place (Some n) h = ap Some (min-eq_right (h n refl))
 
--- The first line that fails one of two tests is the lesser of the first that fails the one and the first that fails the
--- other.
+-- the first line that fails one of two tests is the lesser of the first that fails the one and the first that fails the other
 pub first-both : (one other : List (List Lit) → Line → List Line → Bool) (clauses : List (List Lit)) (place : ℕ) (lines : List Line) → first_line (passes_both one other) clauses place lines ≡ lesser (first_line one clauses place lines) (first_line other clauses place lines)
 first-both one other clauses place [] = refl
 first-both one other clauses place (line ∷ lines) =
@@ -56,7 +55,7 @@ first-both one other clauses place (line ∷ lines) =
 pub line-here : (lines : List Line) (i : ℕ) → i < length lines → line_at lines i ≡ get_or lines i (line_at lines i)
 line-here lines i h = get_or_default lines i no_line (line_at lines i) h
 
--- one line more of a log whose lines pass so far; and the first that does not
+-- one more line of a log whose lines pass so far, and the first line that does not pass
 pub first-passed : (test : List (List Lit) → Line → List Line → Bool) (clauses : List (List Lit)) (lines : List Line) (i : ℕ) (line : Line) (whole : Option ℕ) → i < length lines → line ≡ get_or lines i line → test (clauses_before clauses (take i lines)) line (drop (i + 1) lines) ≡ true → first_line test (clauses_before clauses (take i lines)) (i + 1) (drop i lines) ≡ whole → first_line test (clauses_before clauses (take (i + 1) lines)) (i + 1 + 1) (drop (i + 1) lines) ≡ whole
 first-passed test clauses lines i line whole h r e w =
     let before : List (List Lit) = clauses_before clauses (take i lines) in

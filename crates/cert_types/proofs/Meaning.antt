@@ -1,4 +1,4 @@
--- What it is for an answer to be valid, both ways.
+-- For `laws::what_valid_means`: what a valid answer is, in both directions.
 use Rattle.std.proofs.Common.{◌≡◌, ℕ, ◌+◌, Bool, true, false, not, ◌==◌, ◌&&◌, if◌then◌else◌, List, [], ◌∷◌, ◌++◌, length, Option, None, option_map, is_none, refl, ap, nat_lt, nat_le, eqb-true, eq-eqb, ltb-true, lt-ltb, leb-true, le-leb}
 use Rattle.std.proofs.lemmas.Bool.{and_parts, and_from, not-true, not_from_false}
 use Rattle.clause_db.specs.declared.lit.Lit.{Lit}
@@ -53,7 +53,7 @@ open-parts : (b c : Bool) → (if b then false else c) ≡ true → (b ≡ false
 open-parts true c e = cc
 open-parts false c e = (refl, e)
 
--- a log that follows and ends empty passes the test of each line
+-- a log that follows and ends with the empty line passes the test of each line
 pub follows-proof : (vars : ℕ) (clauses : List (List Lit)) (place : ℕ) (lines : List Line) → lines_fault vars clauses place lines ≡ None → ends_empty lines ≡ true → first_line (is_proof_line vars) clauses place lines ≡ None
 follows-proof vars clauses place [] e f = cc
 follows-proof vars clauses place (line ∷ []) e f =

@@ -1,4 +1,4 @@
--- What it says that a task is a query, part by part, and back.
+-- The parts of the statement that a task is a query, and the converse.
 use Rattle.std.proofs.Common.{◌≡◌, ◌∙◌, ◌&&◌, ◌==◌, ℕ, true, is_none, List, [], ◌∷◌, None, ap, map, subst, sym, ⊎_elim, eqb-true}
 use Rattle.std.proofs.lemmas.Bool.{and_from, and_parts, or_cases}
 use Rattle.pack_defs.specs.Book.{BookView, domain_of}
@@ -36,7 +36,7 @@ query-of book task h = record {
       (and_from (is_none (violation book task.last)) (has_others task.station task.set task.last) (ap is_none h.clean) h.others)));
 }
 
--- its set ascends
+-- the set of a query ascends
 pub query-task : (book : BookView) (task : Task) → IsQuery book task → IsTaskOf book task
 query-task book task q = record { rises = (query-parts book task q).rises }
 

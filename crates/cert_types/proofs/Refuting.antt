@@ -1,4 +1,4 @@
--- A set that is refuted does not fit.
+-- For `laws`: a refuted set does not fit.
 use Rattle.std.proofs.Common.{◌≡◌, ℕ, true, false, ◌==◌, ◌&&◌, List, [], ◌∷◌, Contains, sym, ap₂, ◌∙◌, subst, ⊎_elim, eqb-true}
 use Rattle.std.specs.List.{list_all, list_any}
 use Rattle.std.proofs.lemmas.Bool.{and_parts, both_ways, or_cases}
@@ -31,7 +31,7 @@ only-is [] x c o h = cc
 only-is (d ∷ []) x c o h = ⊎_elim (λ e. sym (eqb-true d c e) ∙ eqb-true d x o) (λ (r : false ≡ true). cc) (or_cases (d == c) false h)
 only-is (d ∷ e ∷ es) x c o h = cc
 
--- a station of a set that fits stands on its one channel
+-- a station with one channel is on that channel if its set fits
 on-only : (book : BookView) (set : List ℕ) (s c : ℕ) (f : Fits book set) → is_in set s ≡ true → is_only (domain_of book s) c ≡ true → Contains f.entries (entry s c)
 on-only book set s c f h only =
     let x = Contains-from_map (λ y. y.0) f.entries s (subst (λ z. Contains z s) (sym f.stations) (is_in-gives set s h)) in

@@ -1,4 +1,4 @@
--- The bits of a clause that stands within a line are among the line's.
+-- For `signature`: the bits of a subset of a line are among the line's.
 use Rattle.std.proofs.Common.{◌≡◌, ℕ, ◌≤◌, Bool, true, ◌||◌, List, [], ◌∷◌, sym, ap, ◌∙◌, subst, arith, eq-eqb}
 use Rattle.std.specs.Prelude.{bit_and, bit_or}
 use Rattle.std.specs.Int.{bit_at}
@@ -11,7 +11,7 @@ use Rattle.clause_db.proofs.Literals.{lit_cases, same_lit-apart}
 use Rattle.cert_types.specs.Fresh.{stands_within}
 use Rattle.cert_types.specs.Signature.{bit_of, signed, signature, covers}
 
--- each bit of one number is one of the other
+-- each bit of one number is a bit of the other
 abbrev pub Among : ℕ → ℕ → Type 0
 Among a b = (i : ℕ) → bit_at a i ≤ bit_at b i
 
@@ -31,7 +31,7 @@ signed-keeps : (lits : List Lit) (bits : ℕ) → Among bits (signed bits lits)
 signed-keeps [] bits = λ i. omega arith
 signed-keeps (l ∷ ls) bits = among-both bits (bit_or bits (bit_of l)) (signed (bit_or bits (bit_of l)) ls) (among-first bits (bit_of l)) (signed-keeps ls (bit_or bits (bit_of l)))
 
--- a literal that these have, as the first or among the others
+-- these have a literal: as the first one or among the others
 pub has-parts : (m : Lit) (ms : List Lit) (l : Lit) (P : Type 0) → has_lit (m ∷ ms) l ≡ true → (l ≡ m → P) → (has_lit ms l ≡ true → P) → P
 has-parts m ms l P h first rest = lit_cases l m P first (λ n. rest (ap (λ (b : Bool). b || has_lit ms l) (sym (same_lit-apart l m n)) ∙ h))
 
@@ -52,6 +52,6 @@ signed-among lits (l ∷ ls) bits h s =
 pub among-covers : (these bits : ℕ) → Among bits these → covers these bits ≡ true
 among-covers these bits h = eq-eqb (bit_and bits these) bits (same_from_bits (bit_and bits these) bits (λ i. bit_at_and bits these i ∙ min-eq_left (h i)))
 
--- a clause within the literals has its bits among theirs
+-- the bits of a subset of the literals are among theirs
 pub within-covers : (lits clause : List Lit) → stands_within lits clause ≡ true → covers (signature lits) (signature clause) ≡ true
 within-covers lits clause s = among-covers (signature lits) (signature clause) (signed-among lits clause 0 (signed-keeps lits 0) s)

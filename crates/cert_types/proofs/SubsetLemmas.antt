@@ -1,10 +1,10 @@
--- What is left of a list decides as the whole does.
+-- For the loops of `subset`: the rest of a list decides as the complete list does.
 use Rattle.std.proofs.Common.{◌≡◌, ℕ, ◌+◌, ◌-◌, ◌<◌, ◌≤◌, Bool, true, false, ◌&&◌, List, [], ◌∷◌, length, drop, get_or, refl, sym, ap, ◌∙◌, arith, length-drop, lt-ltb, le-ltb}
 use Rattle.std.specs.List.{list_all}
 use Rattle.clause_db.proofs.Literals.{drop-from}
 use Rattle.pack_defs.specs.Lists.{is_ascending}
 
--- two neighbours and the numbers behind them
+-- two neighbours and the numbers after them
 neighbours : (xs : List ℕ) (i : ℕ) → 1 ≤ i → i < length xs → drop (i - 1) xs ≡ get_or xs (i - 1) 0 ∷ get_or xs i 0 ∷ drop (i + 1) xs
 neighbours xs i one h =
     let here : i - 1 + 1 ≡ i = omega arith in
@@ -12,7 +12,7 @@ neighbours xs i one h =
     ∙ ap (λ (k : ℕ). get_or xs (i - 1) 0 ∷ drop k xs) here
     ∙ ap (λ (ys : List ℕ). get_or xs (i - 1) 0 ∷ ys) (drop-from xs i 0 h)
 
--- where they ascend, the numbers from the second on decide; where they don't, the list does not ascend
+-- if they ascend, the numbers from the second on decide; otherwise the list does not ascend
 pub ascending-passed : (xs : List ℕ) (i : ℕ) (whole : Bool) → 1 ≤ i → i < length xs → get_or xs (i - 1) 0 < get_or xs i 0 → is_ascending (drop (i - 1) xs) ≡ whole → is_ascending (drop (i + 1 - 1) xs) ≡ whole
 ascending-passed xs i whole one h less w =
     let here : i + 1 - 1 ≡ i = omega arith in
@@ -39,7 +39,7 @@ ascending-end xs i whole one h w =
     let short : length (drop (i - 1) xs) ≤ 1 = simp length-drop (omega arith) in
     sym (short-ascends (drop (i - 1) xs) short) ∙ w
 
--- where the test holds of the next number, the numbers behind it decide; where it doesn't, it does not hold of all
+-- if the test holds of the next number, the numbers after it decide; otherwise it does not hold of all
 pub all-passed : (p : ℕ → Bool) (xs : List ℕ) (i : ℕ) (whole : Bool) → i < length xs → p (get_or xs i 0) ≡ true → list_all p (drop i xs) ≡ whole → list_all p (drop (i + 1) xs) ≡ whole
 all-passed p xs i whole h e w =
     sym (ap (λ (b : Bool). b && list_all p (drop (i + 1) xs)) e) ∙ sym (ap (list_all p) (drop-from xs i 0 h)) ∙ w

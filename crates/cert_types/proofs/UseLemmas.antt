@@ -1,4 +1,4 @@
--- What lines have, and that a clause with a literal that none has stands within none.
+-- For `uses`: what is counted, and that a clause with a literal that no line has is a subset of no line.
 use Rattle.std.proofs.Common.{◌≡◌, ℕ, ◌<◌, ◌≤◌, ◌*◌, ◌-◌, ◌^◌, Bool, true, false, cond, min, nat_lt, ◌&&◌, List, [], ◌∷◌, ◌+◌, take, length, get_or, replicate, arith, refl, sym, ap, ◌∙◌}
 use Rattle.std.specs.List.{list_all, sum_by}
 use Rattle.std.proofs.lemmas.Bool.{and_parts, and_from, cond-true, cond-false, lt-ltb}
@@ -15,14 +15,14 @@ use Rattle.cert_types.specs.Fresh.{stands_within}
 use Rattle.cert_types.specs.Uses.{AreCounted, UsesView, are_used, count_of, is_used, one_more, times_in, times_of}
 use Rattle.cert_types.proofs.SignatureLemmas.{has-parts}
 
--- where all of the literals pass a test, each that they have does
+-- if all literals pass a test, each of them does
 used-of : (used : Lit → Bool) (lits : List Lit) (l : Lit) → has_lit lits l ≡ true → list_all used lits ≡ true → used l ≡ true
 used-of used [] l h u = cc
 used-of used (m ∷ ms) l h u =
     let parts = and_parts (used m) (list_all used ms) u in
     has-parts m ms l (used l ≡ true) h (λ e. ap used e ∙ parts.0) (λ r. used-of used ms l r parts.1)
 
--- a clause with a literal that doesn't pass stands within no literals that all do
+-- a clause with a literal that fails the test is no subset of literals that all pass
 pub unused : (used : Lit → Bool) (lits clause : List Lit) → list_all used clause ≡ false → list_all used lits ≡ true → stands_within lits clause ≡ false
 unused used lits [] e u = cc
 unused used lits (l ∷ ls) e u = step (has_lit lits l) (used l) (λ h. used-of used lits l h u) e (λ f. unused used lits ls f u)
@@ -35,14 +35,14 @@ unused used lits (l ∷ ls) e u = step (has_lit lits l) (used l) (λ h. used-of 
         clash : false ≡ true → ⊥
         clash c = cc
 
--- ---- lines counted
+-- ---- counting lines
 
 sum-cons : {X : Type 0} (f : X → ℕ) (x : X) (xs : List X) → sum_by f (x ∷ xs) ≡ f x + sum_by f xs
 sum-cons f x xs =
     let both : sum_by f (x ∷ xs) ≡ (0 + f x) + sum_by f xs = sum_by-append f (x ∷ []) xs in
     omega (arith, both)
 
--- so far a literal was counted of those of a line that are not left
+-- a literal is counted in those literals of a line that the loop has visited
 pub CountedSoFar : UsesView → List Lit → List Lit → Lit → ℕ → Type 0
 CountedSoFar uses left lits l t = (k : ℕ) × (count_of uses l ≡ min k (2 ^ 32 - 1)) × (k + times_in left l ≡ t + times_in lits l)
 
@@ -68,7 +68,7 @@ counted-end uses left lits l t is h =
     let same : h.0 ≡ t + times_in lits l = omega (arith, none, h.2) in
     h.1 ∙ ap (λ n. min n (2 ^ 32 - 1)) same
 
--- one line more
+-- one more line
 pub counted-line : (vars : ℕ) (old new : UsesView) (lines : List Line) (i : ℕ) (line : Line) (lits : List Lit) → i < length lines → line ≡ get_or lines i line → lits ≡ line.lits → AreCounted vars (take i lines) old → new.vars ≡ old.vars → ((l : Lit) (t : ℕ) → is_lit_within old.vars l ≡ true → count_of old l ≡ min t (2 ^ 32 - 1) → count_of new l ≡ min (t + times_in lits l) (2 ^ 32 - 1)) → AreCounted vars (take (i + 1) lines) new
 counted-line vars old new lines i line lits below is read h same more = record {
   of_vars = same ∙ h.of_vars;
@@ -118,7 +118,7 @@ used-lines uses (line ∷ rest) h =
     (used-lits uses line.lits (λ l k. h l (omega (arith, sum l, k))))
     (used-lines uses rest (λ l k. h l (omega (arith, sum l, k))))
 
--- the literals of a line among them
+-- the literals of a line are among them
 pub line-used : (vars : ℕ) (uses : UsesView) (lines : List Line) (i : ℕ) (line : Line) (lits : List Lit) → i < length lines → line ≡ get_or lines i line → lits ≡ line.lits → AreCounted vars lines uses → are_used uses lits ≡ true
 line-used vars uses lines i line lits l is same h =
     ap (λ (z : List Lit). are_used uses z) same

@@ -1,4 +1,4 @@
--- What an answer without fault shows.
+-- For `laws`: what a valid answer shows.
 use Rattle.std.proofs.Common.{◌≡◌, ℕ, ◌+◌, Bool, true, false, not, ◌&&◌, if◌then◌else◌, List, [], ◌∷◌, ◌++◌, length, Option, Some, None, option_map, is_none, refl, ◌∙◌, nat_lt, nat_le}
 use Rattle.std.proofs.lemmas.Bool.{and_parts, not-true}
 use Rattle.clause_db.specs.declared.lit.Lit.{Lit}
@@ -40,7 +40,7 @@ goes-on : (b c : Bool) → b ≡ false → c ≡ true → (if b then false else 
 goes-on true c e f = cc
 goes-on false c e f = f
 
--- a log that passes the test of each line follows, and its last line alone is empty
+-- a log that passes the test of each line follows, and only its last line is empty
 pub proof-follows : (vars : ℕ) (clauses : List (List Lit)) (place : ℕ) (lines : List Line) → is_empty lines ≡ false → first_line (is_proof_line vars) clauses place lines ≡ None → (lines_fault vars clauses place lines ≡ None) × (ends_empty lines ≡ true)
 proof-follows vars clauses place [] n e = cc
 proof-follows vars clauses place (line ∷ []) n e =
@@ -59,11 +59,11 @@ pub some_line : (lines : List Line) → nat_lt 0 (length lines) ≡ true → is_
 some_line [] h = cc
 some_line (l ∷ ls) h = refl
 
--- the first line of a log over a subset that is no proof's
+-- the first line of a log over a subset that is not one of a proof
 abbrev pub proof_line : BookView → List ℕ → List Line → Option ℕ
 proof_line book subset lines = first_line (is_proof_line (variables_in book subset)) (packing_formula book subset) 1 lines
 
--- a refutation without fault refutes the task's set
+-- a valid refutation refutes the task's set
 pub valid-refutes : (book : BookView) (task : Task) (worker : Worker) (how : Refutation) → answer_fault book task worker (Refuted how) ≡ None → Refutes book task.set
 unfolding answer_fault
 valid-refutes book task worker (Proof subset log) e =
@@ -76,7 +76,7 @@ valid-refutes book task worker (Proof subset log) e =
     ByLog subset log.lines sub.0 both.0 both.1
 valid-refutes book task worker (Dead p) e = ByPair p (unless-parts (is_dead book task.set p) (PairOf p) None e).0
 
--- a fit without fault leaves a clean map of exactly the task's set
+-- a valid fit leaves a clean map of exactly the task's set
 pub fit-clean : (book : BookView) (task : Task) (delta : List (ℕ × ℕ)) → fit_fault book task delta ≡ None → IsCleanOn book task.set (overlaid task.last delta)
 fit-clean book task delta e =
     clean-on book task.set (overlaid task.last delta) (mapped-none place_of (first_fault book task.set (overlaid task.last delta)) e)

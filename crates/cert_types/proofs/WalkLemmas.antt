@@ -1,4 +1,4 @@
--- The map that a walk starts from, and its moves.
+-- For `start` and `moves`: the map that a walk starts from, and its moves.
 use Rattle.std.proofs.Common.{◌≡◌, ℕ, true, not, ◌==◌, ◌&&◌, nat_lt, List, [], ◌∷◌, map, refl, sym, ap, subst, ◌∙◌, ⊎_elim, eqb-true}
 use Rattle.std.proofs.lemmas.Bool.{and_parts, or_cases}
 use Rattle.pack_defs.specs.declared.pair.Pair.{Pair}
@@ -33,11 +33,11 @@ troubled-there book entries s h =
     (λ e. subst (λ t. has_station entries t ≡ true) (eqb-true p.g s e) (station-has entries (entry p.g p.b) both.1))
     (or_cases (p.f == s) (p.g == s) parts.0)
 
--- a station that a move takes elsewhere is in the map
+-- a station that moves to another channel is in the map
 pub mover-there : (book : BookView) (entries : List (ℕ × ℕ)) (x : ℕ × ℕ) → is_move book entries x ≡ true → has_station entries x.0 ≡ true
 mover-there book entries x h =
     troubled-there book entries x.0 (and_parts (is_in_trouble book entries x.0) (is_in (domain_of book x.0) x.1 && not (has_entry entries x)) h).0
 
--- whether the number of a station's violated pairs is above 0
+-- the number of a station's violated pairs is above 0 exactly if the station is in a violated pair
 pub troubled-counted : (book : BookView) (entries : List (ℕ × ℕ)) (s n : ℕ) → n ≡ violations_of book entries s → nat_lt 0 n ≡ is_in_trouble book entries s
 troubled-counted book entries s n e = ap (nat_lt 0) e ∙ counts-any (λ p. is_of s p && is_violated entries p) book.pairs

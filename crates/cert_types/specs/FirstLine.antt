@@ -6,30 +6,30 @@ use Rattle.pack_defs.specs.Lists.{is_empty}
 use Rattle.rup_check.specs.declared.line.Line.{Line}
 use Rattle.rup_check.specs.Follows.{line_fault}
 
--- The place of the first line that fails a test, from this place on. The test sees the clauses and lines before it, and
+-- The place of the first line that fails a test, counted from this place. The test sees the clauses and lines before the line, and
 -- the lines after it.
 abbrev pub first_line : (List (List Lit) → Line → List Line → Bool) → List (List Lit) → ℕ → List Line → Option ℕ
 first_line test clauses place [] = None
 first_line test clauses place (line ∷ lines) =
     if test clauses line lines then first_line test (clauses ++ line.lits ∷ []) (place + 1) lines else Some place
 
--- a line follows from the clauses and lines before it
+-- Whether a line follows from the clauses and lines before it.
 abbrev pub does_follow : ℕ → List (List Lit) → Line → List Line → Bool
 does_follow vars clauses line rest = is_none (line_fault vars clauses line)
 
--- a line is empty exactly where it is the last, as in a refutation
+-- Whether a line is empty exactly if it is the last, as in a refutation.
 abbrev pub ends_there : List (List Lit) → Line → List Line → Bool
 ends_there clauses line rest = if is_empty rest then is_empty_clause line.lits else not (is_empty_clause line.lits)
 
--- a line has a literal
+-- Whether a line has a literal.
 abbrev pub has_literal : List (List Lit) → Line → List Line → Bool
 has_literal clauses line rest = not (is_empty_clause line.lits)
 
--- a line passes both tests
+-- Whether a line passes both tests.
 abbrev pub passes_both : (List (List Lit) → Line → List Line → Bool) → (List (List Lit) → Line → List Line → Bool) → List (List Lit) → Line → List Line → Bool
 passes_both one other clauses line rest = one clauses line rest && other clauses line rest
 
--- the lesser of two places, of which each may be missing
+-- The lesser of two places, each of which may be missing.
 abbrev pub lesser : Option ℕ → Option ℕ → Option ℕ
 lesser None other = other
 lesser (Some m) None = Some m

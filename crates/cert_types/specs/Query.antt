@@ -1,4 +1,4 @@
--- What is asked of a query beside a book, and what a solver's attempt at one says.
+-- When a task is a query under a book, and what a solver's attempt at a query says.
 use Rattle.std.specs.Prelude.{ℕ, Bool, false, true, not, ◌≡◌, ◌≢◌, ◌&&◌, ◌||◌, ◌==◌, List, Option, Some, None, is_none}
 use Rattle.std.specs.List.{list_all}
 use Rattle.pack_defs.specs.Book.{BookView, domain_of}
@@ -10,38 +10,40 @@ use Rattle.cert_types.specs.declared.poll.Attempt.TheVariants.{Said, Moved}
 use Rattle.cert_types.specs.declared.task.Task.{Task}
 use Rattle.cert_types.specs.Valid.{IsValid}
 
--- each station of the set has some channel
+-- Whether each station of the set has some channel.
 abbrev pub has_channels : BookView → List ℕ → Bool
 has_channels book set = list_all (λ s. not (is_empty (domain_of book s))) set
 
--- each entry is of a station of the set, on a channel of its domain
+-- Whether each entry is of a station of the set, on a channel of its domain.
 abbrev pub is_on_domains : BookView → List ℕ → List (ℕ × ℕ) → Bool
 is_on_domains book set entries = list_all (λ x. is_in set x.0 && is_in (domain_of book x.0) x.1) entries
 
--- each station of the set but the tested one stands in the map; of the test of the start, which is of none, nothing is asked
+-- Whether each station of the set except the tested one is in the map. The test of the start, which tests no single station,
+-- passes.
 abbrev pub has_others : Option ℕ → List ℕ → List (ℕ × ℕ) → Bool
 has_others None set entries = true
 has_others (Some s) set entries = list_all (λ t. (t == s) || has_station entries t) set
 
--- the last map is of stations of the set, on their domains, and violates no pair; it has each but the tested one
+-- Whether the last map has stations of the set alone, on their domains, violates no pair, and has all of the set except the tested
+-- station.
 abbrev pub is_last_map : BookView → Task → Bool
 is_last_map book task =
     is_on_domains book task.set task.last && (is_none (violation book task.last) && has_others task.station task.set task.last)
 
--- the set ascends and each of its stations has a channel, and the last map is clean and has the others
+-- Whether the set ascends, each of its stations has a channel, and the last map is right for the set.
 unfoldable pub is_query : BookView → Task → Bool
 is_query book task = is_ascending task.set && (has_channels book task.set && is_last_map book task)
 
--- the task is one that a solver may be asked
+-- A task that a solver may be asked.
 pub record IsQuery (book : BookView) (task : Task) : Type 0 where
   pub holds : is_query book task ≡ true
 
--- What an attempt says: an answer is valid; and where another query stands, that number is the poll's latest answer.
+-- What the outcome of an attempt says: an answer is valid, and a number of another query is the latest answer of the poll.
 abbrev pub AttemptIs : BookView → Task → Worker → ℕ → Attempt → Type 0
 AttemptIs book task worker last (Said answer) = IsValid book task worker answer
 AttemptIs book task worker last (Moved now) = (last ≡ now) × (now ≢ task.number)
 
--- the tested station is one of the map
+-- Whether the map has the tested station.
 abbrev pub is_named : Option ℕ → List (ℕ × ℕ) → Bool
 is_named None entries = false
 is_named (Some s) entries = has_station entries s

@@ -1,4 +1,4 @@
--- What shows that a set of stations does not fit.
+-- The certificates that a set of stations does not fit.
 use Rattle.std.specs.Prelude.{ℕ, Bool, ◌&&◌, ◌==◌, ◌≡◌, IsTrue, List, []}
 use Rattle.std.specs.List.{list_all, list_any}
 use Rattle.clause_db.specs.declared.lit.Lit.{Lit}
@@ -10,25 +10,26 @@ use Rattle.rup_check.specs.declared.line.Line.{Line}
 use Rattle.rup_check.specs.Follows.{Follows, ends_empty}
 use Rattle.cert_types.specs.FirstLine.{does_follow, ends_there, passes_both}
 
--- the list is of stations of the set, ascending
+-- Whether the list ascends and has only stations of the set.
 abbrev pub is_subset : List ℕ → List ℕ → Bool
 is_subset subset set = is_ascending subset && list_all (is_in set) subset
 
+-- Whether two pairs are equal.
 abbrev pub same_pair : Pair → Pair → Bool
 same_pair p q = ((p.f == q.f) && (p.a == q.a)) && ((p.g == q.g) && (p.b == q.b))
 
--- a pair of the book between two stations of the set, each of which has the pair's channel alone
+-- Whether the pair is one of the book, between two stations of the set that each have only the pair's channel.
 abbrev pub is_dead : BookView → List ℕ → Pair → Bool
 is_dead book set p =
     list_any (λ q. same_pair q p) book.pairs
     && ((is_in set p.f && is_in set p.g) && (is_only (domain_of book p.f) p.a && is_only (domain_of book p.g) p.b))
 
--- a line of a proof follows, and is empty exactly where it is the last
+-- Whether a line of a proof follows, and is empty exactly if it is the last.
 abbrev pub is_proof_line : ℕ → List (List Lit) → Line → List Line → Bool
 is_proof_line vars = passes_both (does_follow vars) ends_there
 
--- A set is refuted by a log over the clauses of a subset that follows and whose last line alone is empty (a refutation
--- as in LRAT), by a dead pair, or by a station without a channel.
+-- A certificate that a set does not fit: a log over the clauses of a subset (a refutation as in LRAT, whose last line alone is
+-- empty), a dead pair, or a station without a channel.
 pub data Refutes (book : BookView) (set : List ℕ) : Type 0 where
   ByLog : (subset : List ℕ) (lines : List Line) → IsTrue (is_subset subset set) → Follows (variables_in book subset) (packing_formula book subset) lines → IsTrue (ends_empty lines) → Refutes book set
   ByPair : (p : Pair) → IsTrue (is_dead book set p) → Refutes book set

@@ -1,4 +1,5 @@
-//! An answer that is known to be valid, which the auction takes.
+//! An answer that is known to be valid. Solvers and the check in `certify` make such values, and the auction takes no other
+//! answers.
 
 ghost use Rattle.std.specs.Prelude.{◌≡◌};
 ghost use Rattle.cert_types.specs.Certificate.{Certificate};
@@ -11,9 +12,9 @@ use pack_defs::worker::Worker;
 use std::marker::Model;
 use std::snapshot::Snapshot;
 
-/// An answer that was let through: it is valid for one book, one task and one worker, which contracts see beside it. These
-/// three stand in proofs alone and take no memory. `certify` and `certify_query` let an answer through by a look at it, and
-/// a solver's own answer is let through without one, since its contract says that it is valid.
+/// A valid answer to one task, from one worker, under one book. The task, the worker and the book exist only in proofs and take no
+/// memory. `certify` and `certify_query` make this value after a check. A solver's own answer needs no check, since the solver's
+/// contract ensures that the answer is valid.
 #[derive(Drop)]
 pub struct Certified {
     book: Snapshot<Book>,
@@ -34,7 +35,8 @@ impl Model for Certified {
 }
 
 impl Certified {
-    /// An answer that is known to be valid for these, as a solver's attempt says of its own: nothing of it is looked at.
+    /// Returns the answer as a certified one, unchecked. The precondition says that the answer is valid, as a solver's contract
+    /// ensures.
     pub fn of_valid(book: &Book, task: &Task, worker: &Worker, answer: Answer) -> Certified
         requires { IsValid book.now task.now worker.now answer }
         ensures { result ≡ record { book = book.now; task = task.now; worker = worker.now; answer = answer } }
@@ -47,7 +49,7 @@ impl Certified {
         }
     }
 
-    /// The answer. It is valid for the book, the task and the worker that it was let through for.
+    /// Lends the answer. It is valid for the book, the task and the worker that it was certified for.
     pub fn answer(&self) -> &Answer
         ensures answer { result.now ≡ self.now.answer }
         ensures valid { IsValid self.now.book self.now.task self.now.worker self.now.answer }
@@ -55,7 +57,7 @@ impl Certified {
         &self.answer
     }
 
-    /// The answer, taken out. It is valid for the book, the task and the worker that it was let through for.
+    /// Returns the answer. It is valid for the book, the task and the worker that it was certified for.
     pub fn into_answer(self) -> Answer
         ensures answer { result ≡ self.answer }
         ensures valid { IsValid self.book self.task self.worker self.answer }

@@ -1,4 +1,4 @@
-//! A fit of a query, judged by the stations whose channels it changes.
+//! The quick check of a fit, by the stations whose channels it changes. `certify_query` tries this check first.
 
 ghost use Rattle.std.specs.Prelude.{◌≡◌, ◌&&◌, is_none};
 ghost use Rattle.cert_types.specs.Query.{IsQuery, is_named};
@@ -10,10 +10,9 @@ use assign_check::changes::violates_at_some;
 use pack_defs::book::Book;
 use pack_defs::channel_map::ChannelMap;
 
-/// Whether a fit of a query names the tested station and is valid. Only the stations that it changes are looked at: whether
-/// each is of the set and on its domain, and no pair of theirs has both entries in the map that the fit leaves. The last map
-/// violates no pair and has each other station, so that this decides. It costs what the pairs of the changed stations cost,
-/// and takes no memory.
+/// Checks whether a fit of a query names the tested station and is valid. Only the stations that the fit changes are visited. Each
+/// must be of the set and on its domain, and no pair of theirs may have both entries in the new map. This suffices: the last map
+/// violates no pair and has every other station. Costs as much as the pairs of the changed stations, and takes no memory.
 #[tactic(auto, using(crate::proofs::ChangeLemmas::by_changes))]
 pub fn fits_by_changes(book: &Book, task: &Task, delta: &ChannelMap) -> bool
     requires { IsQuery book.now task.now }
@@ -28,7 +27,7 @@ pub fn fits_by_changes(book: &Book, task: &Task, delta: &ChannelMap) -> bool
     !violates_at_some(book, &task.last, delta)
 }
 
-// Whether the tested station is one of the map.
+// Whether the map has the tested station.
 fn is_named(tested: Option<u32>, map: &ChannelMap) -> bool
     ensures { result ≡ is_named tested map.now }
 {

@@ -1,4 +1,4 @@
-//! Whether a pair of two stations with one channel each refutes a set: of the check of a refutation.
+//! The check of a dead pair, the shortest certificate that a set does not fit.
 
 ghost use Rattle.std.specs.Prelude.{◌≡◌, IsTrue};
 ghost use Rattle.std.specs.List.{list_any};
@@ -9,8 +9,8 @@ use pack_defs::book::Book;
 use pack_defs::numbers::is_in;
 use pack_defs::pair::Pair;
 
-/// Whether a pair is one of the book between two stations of an ascending set, each of which has the pair's channel alone.
-/// It searches by halves: once for the pair, and twice for each of its stations.
+/// Checks whether a pair of the book refutes an ascending set. Both stations of the pair must be in the set, and each must have
+/// only the pair's channel. Costs five binary searches: one for the pair, and two for each station.
 pub(crate) fn is_dead(book: &Book, set: &[u32], pair: Pair) -> bool
     requires { IsTrue (is_ascending set.now) }
     ensures { result ≡ is_dead book.now set.now pair }
@@ -20,7 +20,7 @@ pub(crate) fn is_dead(book: &Book, set: &[u32], pair: Pair) -> bool
         && (is_only(book.domain(pair.f), pair.a) && is_only(book.domain(pair.g), pair.b))
 }
 
-// Whether the book has the pair, by halves.
+// Whether the book has the pair, by binary search.
 fn has_pair(book: &Book, pair: Pair) -> bool
     ensures { result ≡ list_any (λ q. same_pair q pair) book.now.pairs }
 {
@@ -28,7 +28,7 @@ fn has_pair(book: &Book, pair: Pair) -> bool
     book.pairs().binary_search(&pair).is_ok()
 }
 
-// Whether the channel is the only one.
+// Whether this is the only channel.
 fn is_only(channels: &[u8], c: u8) -> bool
     ensures { result ≡ is_only channels.now c }
 {

@@ -1,4 +1,4 @@
-//! The part of a map that a fit says, as a worker makes it of the map that it has found.
+//! The entries that a fit names: how a worker turns the map that it has found into an answer.
 
 ghost use Rattle.std.specs.Prelude.{ℕ, ◌≡◌, IfOk, filter, not, true};
 ghost use Rattle.pack_defs.specs.ChannelMap.{IsAscending, overlaid};
@@ -7,8 +7,8 @@ ghost use Rattle.pack_defs.specs.Lists.{has_entry, has_station};
 use pack_defs::channel_map::ChannelMap;
 use std::alloc::{AllocError as NoMemory, Global};
 
-/// The entries of a map that the last one lacks: put over the last one they give the map, where it has each station of the
-/// last one. One pass over the map, with a search by halves for each entry. The only error is want of memory.
+/// Returns the entries of `map` that `last` lacks. Written over `last`, they give `map` if `map` has every station of `last`. Costs
+/// one binary search for each entry of `map`. Fails only if memory runs out.
 pub fn delta(alloc: Global, last: &ChannelMap, map: &ChannelMap) -> Result<ChannelMap, NoMemory>
     ensures lacking { IfOk result (λ d. d ≡ filter (λ x. not (has_entry last.now x)) map.now) }
     ensures whole { ((s : ℕ) → has_station last.now s ≡ true → has_station map.now s ≡ true) → IfOk result (λ d. overlaid last.now d ≡ map.now) }

@@ -1,4 +1,4 @@
-//! The first line of a log at fault, by each of the tests but that it is new: of the check of proofs and receipts of lines.
+//! The first invalid line of a log, by each of the tests of proofs and receipts. The test that a line is new is in `fresh`.
 
 ghost use Rattle.std.specs.Prelude.{◌≡◌, IfOk, List};
 ghost use Rattle.clause_db.specs.declared.lit.Lit.{Lit};
@@ -11,7 +11,8 @@ use rup_check::line::Log;
 use rup_check::lines::Lines;
 use std::alloc::{AllocError as NoMemory, Global};
 
-/// The first line, from 1, that does not follow from the clauses and the lines before it.
+/// Returns the number, from 1, of the first line that does not follow from the clauses and the lines before it. Fails only if
+/// memory runs out.
 pub(crate) fn first_not_following(
     alloc: Global,
     clauses: &ClauseList,
@@ -26,7 +27,8 @@ pub(crate) fn first_not_following(
     }
 }
 
-/// The first line, from 1, that is empty and not the last, or is the last and not empty. It depends on no clauses.
+/// Returns the number, from 1, of the first line that is empty before the end, or is last and not empty. No clause is needed for
+/// this.
 pub(crate) fn first_misplaced(lines: &Lines) -> Option<u64>
     ensures { (clauses : List (List Lit)) → result ≡ first_line ends_there clauses 1 lines.now }
 {
@@ -40,7 +42,7 @@ pub(crate) fn first_misplaced(lines: &Lines) -> Option<u64>
     None
 }
 
-/// The first line, from 1, that is empty. It depends on no clauses.
+/// Returns the number, from 1, of the first empty line. No clause is needed for this.
 pub(crate) fn first_empty(lines: &Lines) -> Option<u64>
     ensures { (clauses : List (List Lit)) → result ≡ first_line has_literal clauses 1 lines.now }
 {
@@ -52,7 +54,7 @@ pub(crate) fn first_empty(lines: &Lines) -> Option<u64>
     None
 }
 
-/// The lesser of two places, of which each may be missing.
+/// Returns the lesser of two places, each of which may be missing.
 pub(crate) fn lesser(one: Option<u64>, other: Option<u64>) -> Option<u64>
     ensures { result ≡ lesser one other }
 {

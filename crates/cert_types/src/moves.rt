@@ -1,4 +1,4 @@
-//! The first move of a receipt at fault: of the check of receipts of those that walk.
+//! The check of a receipt of moves, from a worker that walks.
 
 ghost use Rattle.std.specs.Prelude.{◌≡◌, ◌&&◌, IfOk};
 ghost use Rattle.std.specs.Bool.{OnTrue};
@@ -13,9 +13,10 @@ use assign_check::assignment::Assignment;
 use pack_defs::book::Book;
 use std::alloc::{AllocError as NoMemory, Global};
 
-/// The first move, from 1, that is not of a station of a violated pair to another channel of its domain, or after which
-/// nothing is violated. Each is judged in the map that those before it leave, from the start map of the task's set. The
-/// start map costs what the pairs of its stations cost, and each move what those of its station and its domain cost.
+/// Returns the number, from 1, of the first invalid move. A move is valid if it takes a station of a violated pair to another
+/// channel of its domain, and some pair is violated afterwards. Each move is made before the next is checked, beginning at the
+/// start map of the task's set. Building the start map costs as much as its stations' pairs, and each move as much as the pairs and
+/// the domain of its station. Fails only if memory runs out.
 pub(crate) fn first_move(
     alloc: Global,
     book: &Book,
@@ -34,7 +35,7 @@ pub(crate) fn first_move(
     Ok(None)
 }
 
-// Makes a move, if it is one. It passes where it is one and something is violated after it.
+// Makes a move if it is valid. Returns whether it is valid and some pair is violated afterwards.
 fn passes(book: &Book, map: &mut Assignment, x: (u32, u8)) -> bool
     requires { book.now ≡ map.old.book }
     ensures passes { result ≡ (is_move book.now map.old.entries x && violates_some book.now (put x map.old.entries)) }

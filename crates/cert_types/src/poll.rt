@@ -1,39 +1,39 @@
-//! How a solver learns that its query no longer stands, and what comes of an attempt at one.
+//! How a solver learns that its query is no longer current, and how an attempt at a query ends.
 
 ghost use Rattle.std.specs.Prelude.{ℕ, ◌≡◌, ◌≢◌, ◌≤◌, IfSome};
 
 use crate::answer::Answer;
 
-/// Tells a solver which query stands now, so that it can stop where its own no longer does.
+/// Reports to a solver which query is current, so that the solver can stop working on another one.
 pub trait Poll {
     /// The latest answer.
     ghost last: { Self → ℕ };
 
-    /// What a poll may come to by being asked, any number of times.
+    /// The states that a poll may be in after any number of calls.
     ghost goes: { Self → Self → Type 0 };
 
-    /// The number of the query that stands now.
+    /// Returns the number of the current query.
     fn current(&mut self) -> u64
         ensures answer { last self.new ≡ result }
         ensures goes { goes self.old self.new };
 
-    /// Not to ask leaves a poll as it is.
+    /// A poll that is not called stays as it is.
     ghost goes_nowhere: { (poll : Self) → goes poll poll };
 
-    /// To ask some times, and then some more, is to ask some times.
+    /// Some calls, followed by further calls, are some calls.
     ghost goes_on: { (one two three : Self) → goes one two → goes two three → goes one three };
 }
 
-/// What an attempt at a query came to.
+/// How an attempt at a query ended.
 #[derive(Debug, Drop)]
 pub enum Attempt {
-    /// An answer to the query.
+    /// With an answer to the query.
     Said(Answer),
-    /// The poll answered that another query stands, which has this number.
+    /// With a report of the poll that another query, of this number, is current.
     Moved { now: u64 },
 }
 
-/// The number that a poll answers, where that is another one than this.
+/// Polls once. Returns the number of the current query if it is not `number`.
 pub fn polled<P: Poll>(poll: &mut P, number: u64) -> Option<u64>
     ensures moved { IfSome result (λ now. (P.last poll.new ≡ now) × (now ≢ number)) }
     ensures goes { P.goes poll.old poll.new }
@@ -45,7 +45,8 @@ pub fn polled<P: Poll>(poll: &mut P, number: u64) -> Option<u64>
     Some(now)
 }
 
-/// The same, of a poll that is asked before the first step of a search and then after each `between`, once so many are made.
+/// Polls before the first step of a search and then after every `between` steps, as `polled` does. `steps` counts the steps made so
+/// far.
 pub fn moved<P: Poll>(poll: &mut P, number: u64, steps: usize, between: usize) -> Option<u64>
     requires { 1 ≤ between }
     ensures moved { IfSome result (λ now. (P.last poll.new ≡ now) × (now ≢ number)) }

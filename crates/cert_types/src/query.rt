@@ -1,4 +1,4 @@
-//! The test of a query, which a caller makes before it asks a solver.
+//! The test that a task is a query: what a caller checks before it asks a solver.
 
 ghost use Rattle.std.specs.Prelude.{◌≡◌, ◌==◌, ◌&&◌, ◌||◌, IsTrue, is_none};
 ghost use Rattle.std.specs.Bool.{OnTrue};
@@ -16,10 +16,15 @@ use pack_defs::book::Book;
 use pack_defs::channel_map::ChannelMap;
 use pack_defs::numbers::is_in;
 
-/// Whether a task is one that a solver may be asked beside a book: its set ascends and each of its stations has a channel;
-/// its last map is of stations of the set, each on a channel of its domain, violates no pair, and where a station is tested
-/// has each other one of the set. It searches by halves, once for each station and each entry, goes through the pairs of the
-/// last map's stations, and takes no memory. The queries of an auction are such without being asked.
+/// Checks whether a solver may be asked this task under this book. All of this must hold:
+///
+/// - The set ascends, and each of its stations has a channel.
+/// - Each entry of the last map is of a station of the set, on a channel of its domain.
+/// - The last map violates no pair.
+/// - If a station is tested, the last map has every other station of the set.
+///
+/// Costs one binary search for each station and each entry, and a pass over the pairs of the last map's stations. Takes no memory.
+/// An auction's queries always pass, so the auction need not call this.
 #[tactic(auto, unfolding(crate::specs::Query::is_query))]
 pub fn is_query(book: &Book, task: &Task) -> bool
     ensures exact { result ≡ is_query book.now task.now }
@@ -42,8 +47,8 @@ fn has_channels(book: &Book, set: &[u32]) -> bool
     true
 }
 
-// Whether the last map is of stations of the ascending set, on their domains, violates no pair, and has each of them but the
-// tested one.
+// Whether the last map has only stations of the ascending set, on their domains, and violates no pair. It must have all of the set
+// except the tested station.
 fn is_last_map(book: &Book, task: &Task) -> bool
     requires { IsTrue (is_ascending task.now.set) }
     ensures { result ≡ is_last_map book.now task.now }
@@ -53,7 +58,7 @@ fn is_last_map(book: &Book, task: &Task) -> bool
         && has_others(task.station, task.set.as_slice(), &task.last)
 }
 
-// Whether each station of the set but the tested one stands in the map; where none is tested, nothing is asked.
+// Whether each station of the set except the tested one is in the map. If none is tested, any map passes.
 fn has_others(tested: Option<u32>, set: &[u32], map: &ChannelMap) -> bool
     ensures { result ≡ has_others tested set.now map.now }
 {
@@ -63,7 +68,7 @@ fn has_others(tested: Option<u32>, set: &[u32], map: &ChannelMap) -> bool
     }
 }
 
-// Whether each station of the set but this one stands in the map.
+// Whether each station of the set except this one is in the map.
 fn has_all_but(tested: u32, set: &[u32], map: &ChannelMap) -> bool
     ensures { result ≡ list_all (λ t. (t == tested) || has_station map.now t) set.now }
 {
@@ -75,7 +80,7 @@ fn has_all_but(tested: u32, set: &[u32], map: &ChannelMap) -> bool
     true
 }
 
-// Whether a station is this one or stands in the map.
+// Whether a station is this one or is in the map.
 fn is_there(tested: u32, map: &ChannelMap, station: u32) -> bool
     ensures { result ≡ ((station == tested) || has_station map.now station) }
 {

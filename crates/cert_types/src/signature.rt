@@ -1,11 +1,11 @@
-//! A signature of literals, by which a clause that doesn't stand within a line is mostly told by one look at two numbers.
+//! Signatures: 64 bits for a list of literals. One comparison of signatures excludes most clauses that are not subsets of a line.
 
 ghost use Rattle.std.specs.Prelude.{◌≡◌};
 ghost use Rattle.cert_types.specs.Signature.{bit_of, covers, signature};
 
 use clause_db::lit::Lit;
 
-/// 64 bits, of which each of the literals sets the one of its variable.
+/// Returns the signature of the literals: each literal sets the bit of its variable.
 pub(crate) fn signature(lits: &[Lit]) -> u64
     ensures { result ≡ signature lits.now }
 {
@@ -16,14 +16,14 @@ pub(crate) fn signature(lits: &[Lit]) -> u64
     bits
 }
 
-// The bit of a literal.
+// Returns the bit of a literal.
 fn bit_of(lit: Lit) -> u64
     ensures { result ≡ bit_of lit }
 {
     1 << (lit.var % 64)
 }
 
-/// Whether all of the bits are among these, as they are where a clause of the ones stands within literals of the others.
+/// Whether all of `bits` are among `these`. This holds of the signatures of a line and of a subset of it.
 pub(crate) fn covers(these: u64, bits: u64) -> bool
     ensures { result ≡ covers these bits }
 {

@@ -1,4 +1,4 @@
-//! The map that a walk starts from, for the solver that walks and for the check of its moves.
+//! The map that a walk starts from. The walking solver uses it, and so does the check of its moves.
 
 ghost use Rattle.std.specs.Prelude.{◌≡◌, IfOk, unwrap_or};
 ghost use Rattle.pack_defs.specs.Book.{domain_of};
@@ -11,9 +11,9 @@ use pack_defs::book::Book;
 use pack_defs::channel_map::ChannelMap;
 use std::alloc::{AllocError as NoMemory, Global};
 
-/// The map that a walk over a task's set starts from: each station on its channel in the last map, and where it has none
-/// there, on the least channel of its domain, or on 0 where it has none at all. It searches by halves, once for each
-/// station in the last map, and in the book for those that it lacks. The only error is want of memory.
+/// Returns the map that a walk over a task's set starts from. Each station is on its channel in the last map, if it has one.
+/// Otherwise it is on the least channel of its domain, or on 0 if the domain is empty. Costs one binary search for each station in
+/// the last map, and one in the book for each station that the last map lacks. Fails only if memory runs out.
 pub fn start_map(alloc: Global, book: &Book, task: &Task) -> Result<Vec<(u32, u8)>, NoMemory>
     requires { IsTaskOf book.now task.now }
     ensures map { IfOk result (λ entries. entries.items ≡ start_map book.now task.now.last task.now.set) }
@@ -27,7 +27,7 @@ pub fn start_map(alloc: Global, book: &Book, task: &Task) -> Result<Vec<(u32, u8
     Ok(entries)
 }
 
-// The channel that a walk starts a station on.
+// Returns the channel on which a walk starts a station.
 fn start_channel(book: &Book, last: &ChannelMap, station: u32) -> u8
     ensures { result ≡ unwrap_or (channel_of station last.now) (least_of (domain_of book.now station)) }
 {
@@ -37,7 +37,7 @@ fn start_channel(book: &Book, last: &ChannelMap, station: u32) -> u8
     }
 }
 
-// The first channel; 0 where there is none.
+// Returns the first channel, or 0 if there is none.
 fn least(channels: &[u8]) -> u8
     ensures { result ≡ least_of channels.now }
 {

@@ -1,4 +1,4 @@
-//! Whether a list of stations is one of a set: of the check of proofs, and of queries.
+//! The subset test for lists of stations. The check of proofs and the test of queries call it.
 
 ghost use Rattle.std.specs.Prelude.{◌≡◌, IsTrue};
 ghost use Rattle.std.specs.List.{list_all};
@@ -7,7 +7,7 @@ ghost use Rattle.cert_types.specs.Refutes.{is_subset};
 
 use pack_defs::numbers::is_in;
 
-/// Whether a list ascends and is of stations of an ascending set. It searches by halves, once for each station.
+/// Checks whether a list ascends and has only stations of the ascending set. Costs one binary search for each station.
 pub fn is_subset(subset: &[u32], set: &[u32]) -> bool
     requires { IsTrue (is_ascending set.now) }
     ensures { result ≡ is_subset subset.now set.now }
@@ -15,7 +15,7 @@ pub fn is_subset(subset: &[u32], set: &[u32]) -> bool
     ascends(subset) && are_in(subset, set)
 }
 
-/// Whether each number is above the one before it.
+/// Checks whether each number is above the one before it.
 pub fn ascends(numbers: &[u32]) -> bool
     ensures { result ≡ is_ascending numbers.now }
 {

@@ -8,12 +8,12 @@ use pack_defs::items::Items;
 pub struct Task {
     /// The number of the query, from 1.
     pub number: u64,
-    /// The round of the clock; 0 for the test of the stations that start on air.
+    /// The round of the clock, or 0 for the test of the stations that start on air.
     pub round: u32,
-    /// The station that is tested, if it is not the start.
+    /// The tested station, or `None` for the test of the start.
     pub station: Option<u32>,
-    /// The stations asked about, ascending.
+    /// The stations that must get channels, ascending.
     pub set: Items<u32>,
-    /// The auction's channel map, cut to the set.
+    /// The auction's channel map, restricted to the set.
     pub last: ChannelMap,
 }

@@ -1,5 +1,5 @@
-//! How often lines have each literal. A clause with a literal that no line has stands within none, so it needn't be filed;
-//! and any other is filed best under the literal that lines have least often.
+//! Counts of the literals of lines. A clause with a literal that no line has is a subset of no line, so it need not be filed. Any
+//! other clause is best filed under the literal that lines have least often.
 
 ghost use Rattle.std.specs.Prelude.{ℕ, ◌≡◌, ◌+◌, ◌-◌, ◌^◌, IfOk, min, true};
 ghost use Rattle.clause_db.specs.declared.lit.Lit.{Lit};
@@ -13,7 +13,7 @@ use rup_check::lines::Lines;
 use std::alloc::{AllocError as NoMemory, Global};
 use std::marker::Model;
 
-/// A count for each literal of the variables 1 to `vars`. One that is full stays.
+/// A count for each literal of the variables 1 to `vars`. A count saturates at the greatest number.
 #[derive(Drop)]
 pub(crate) struct Uses {
     vars: u32,
@@ -32,7 +32,7 @@ impl Model for Uses {
 }
 
 impl Uses {
-    /// How often these lines have each literal of the variables 1 to `vars`. The only error is want of memory.
+    /// Returns how often these lines have each literal of the variables 1 to `vars`. Fails only if memory runs out.
     pub(crate) fn of(alloc: Global, vars: u32, lines: &Lines) -> Result<Uses, NoMemory>
         ensures { IfOk result (λ uses. AreCounted vars lines.now uses) }
     {
@@ -46,7 +46,7 @@ impl Uses {
         Ok(uses)
     }
 
-    // Counts one line more.
+    // Counts the literals of one more line.
     fn count_all(&mut self, lits: Literals<'_>)
         ensures vars { self.new.vars ≡ self.old.vars }
         ensures counted { (l : Lit) (t : ℕ) → is_lit_within self.old.vars l ≡ true → count_of self.old l ≡ min t (2 ^ 32 - 1) → count_of self.new l ≡ min (t + times_in lits.entry l) (2 ^ 32 - 1) }
@@ -57,7 +57,7 @@ impl Uses {
         }
     }
 
-    // Counts one literal more.
+    // Counts one more literal.
     fn count(&mut self, lit: Lit)
         ensures vars { self.new.vars ≡ self.old.vars }
         ensures counted { (l : Lit) → is_lit_within self.old.vars l ≡ true → count_of self.new l ≡ one_more self.old lit l }
@@ -69,7 +69,7 @@ impl Uses {
         self.counts[at] = self.counts[at].saturating_add(1);
     }
 
-    /// What is counted of a literal; the greatest number for one that is none of the variables.
+    /// Returns the count of a literal, or the greatest number if its variable is not one of these.
     pub(crate) fn count_of(&self, lit: Lit) -> u32
         ensures { result ≡ count_of self.now lit }
     {
@@ -80,7 +80,7 @@ impl Uses {
         }
     }
 
-    /// Whether each of the literals may be one of a line.
+    /// Whether lines may have each of the literals.
     pub(crate) fn are_used(&self, lits: &[Lit]) -> bool
         ensures { result ≡ are_used self.now lits.now }
     {

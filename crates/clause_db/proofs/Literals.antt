@@ -1,4 +1,4 @@
--- Literals: when two are one, and what one more literal changes.
+-- Literals: when two are equal, and what one more literal changes.
 use Rattle.std.proofs.Common.{◌≡◌, ◌≢◌, ℕ, ◌+◌, ◌<◌, Bool, true, false, not, ◌||◌, ◌==◌, if◌then◌else◌, List, [], ◌∷◌, ◌++◌, length, drop, get_or, refl, sym, ap, ◌∙◌, eqb-true, eq-eqb, drop-cons, add-one, ◌-◌, ◌*◌, ◌≤◌, cond, take, arith}
 use Rattle.std.proofs.lemmas.Bool.{and_parts, and_from, or_right, false_from_ne_true, false≢true}
 use Rattle.clause_db.specs.declared.lit.Lit.{Lit}
@@ -31,7 +31,7 @@ same_lit-refl l = and_from (l.var == l.var) (if l.positive then l.positive else 
 pub same_lit-apart : (l m : Lit) → l ≢ m → same_lit l m ≡ false
 same_lit-apart l m n = false_from_ne_true (same_lit l m) (λ s. n (same_lit-is l m s))
 
--- two literals are one or they aren't
+-- two literals are equal or not
 pub lit_cases : (l x : Lit) (P : Type 0) → (l ≡ x → P) → (l ≢ x → P) → P
 lit_cases l x P same other =
     (elim (same_lit l x) as (λ b. same_lit l x ≡ b → P) [
@@ -58,11 +58,11 @@ has-push_new known x = has-push known x x ∙ or_right (has_lit known x) (same_l
 pub has-push_other : (known : List Lit) (x l : Lit) → l ≢ x → has_lit (known ++ x ∷ []) l ≡ has_lit known l
 has-push_other known x l n = has-push known x l ∙ rw (same_lit-apart l x n) (or_false (has_lit known l))
 
--- a list from a place on: its element there, and the rest
+-- a list from a place on: its item there, and the rest
 pub drop-from : {A : Type 0} (xs : List A) (i : ℕ) (d : A) → i < length xs → drop i xs ≡ get_or xs i d ∷ drop (i + 1) xs
 drop-from xs i d h = drop-cons xs i d h ∙ rw add-one refl
 
--- what a clause keeps of a literal in front
+-- what is not false in a clause with one more literal in front
 pub open-skipped : (known rest : List Lit) (l : Lit) → has_lit known (opposite l) ≡ true → not_false known (l ∷ rest) ≡ not_false known rest
 open-skipped known rest l e = ap (λ (b : Bool). cond (not b) (l ∷ not_false known rest) (not_false known rest)) e
 
@@ -72,7 +72,7 @@ open-kept known rest l e = ap (λ (b : Bool). cond (not b) (l ∷ not_false know
 pub split-at : (xs : List Lit) (i : ℕ) (d : Lit) → i < length xs → xs ≡ take i xs ++ get_or xs i d ∷ drop (i + 1) xs
 split-at xs i d h = sym (take-append-drop i xs) ∙ ap (λ (z : List Lit). take i xs ++ z) (drop-from xs i d h)
 
--- a literal's code names it, and stays below twice the variables
+-- a literal's code identifies it, and is below twice the number of variables
 codes : (v w : ℕ) (a b : Bool) → 1 ≤ v → 1 ≤ w → (if a then 2 * (v - 1) else 2 * (v - 1) + 1) ≡ (if b then 2 * (w - 1) else 2 * (w - 1) + 1) → (v ≡ w) × (a ≡ b)
 codes v w true true p q e = (omega arith, refl)
 codes v w true false p q e = absurd (omega arith)

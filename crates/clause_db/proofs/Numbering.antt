@@ -1,4 +1,4 @@
--- The clause of a number, where one list stands after another.
+-- The clause of a number, in two lists that are appended.
 use Rattle.std.proofs.Common.{◌≡◌, ℕ, ◌-◌, ◌<◌, ◌≤◌, List, [], ◌∷◌, ◌++◌, length, None, zero, suc, refl, ap, arith}
 use Rattle.clause_db.specs.declared.lit.Lit.{Lit}
 use Rattle.clause_db.specs.Clause.{clause_at}
@@ -7,7 +7,7 @@ pub clause_at-nought : (clauses : List (List Lit)) → clause_at clauses 0 ≡ N
 clause_at-nought [] = refl
 clause_at-nought (c ∷ cs) = clause_at-nought cs
 
--- a number past the first list counts on in the second
+-- a number above the length of the first list counts on in the second
 pub clause_at-after : (xs ys : List (List Lit)) (n : ℕ) → length xs < n → clause_at (xs ++ ys) n ≡ clause_at ys (n - length xs)
 clause_at-after [] ys n h =
     let none : n ≡ n - length {A = List Lit} [] = omega arith in
@@ -20,7 +20,7 @@ clause_at-after (x ∷ xs) ys (suc (suc n)) h =
     let f : suc (suc n) - length (x ∷ xs) ≡ suc n - length xs = omega arith in
     grind (arith, r, e, f)
 
--- a number of the first list is its own
+-- a number within the first list is its own
 pub clause_at-before : (xs ys : List (List Lit)) (n : ℕ) → 1 ≤ n → n ≤ length xs → clause_at (xs ++ ys) n ≡ clause_at xs n
 clause_at-before [] ys n l h = absurd (omega arith)
 clause_at-before (x ∷ xs) ys zero l h = absurd (omega arith)

@@ -1,6 +1,10 @@
-//! Literals, and lists of clauses over numbered variables.
+//! Literals, and lists of clauses over numbered variables, as in DIMACS CNF.
 //!
-//! It calls the standard library alone, and knows of no book: formulas, proofs and searches stand on it. Read `lit`, then `list`.
+//! This crate calls the standard library alone, and knows no book. Formulas, proofs and searches are built on it. The modules in
+//! reading order:
+//!
+//! - `lit`: a literal.
+//! - `list`: a list of clauses.
 #![tactic(auto)]
 
 pub mod list;

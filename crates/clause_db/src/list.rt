@@ -1,4 +1,4 @@
-//! Clauses, numbered from 1: what formulas, proofs and searches are over.
+//! Clauses, numbered from 1: the formulas that proofs and searches are over.
 
 ghost use Rattle.std.specs.Prelude.{◌≡◌, ◌+◌, ◌-◌, ◌≤◌, ◌++◌, ◌∷◌, [], length, OnOk, OnErr, Some, slice_index_or, slice_range};
 ghost use Rattle.clause_db.specs.Clause.{clause_at};
@@ -7,8 +7,8 @@ use crate::lit::Lit;
 use std::alloc::{AllocError as NoMemory, Global};
 use std::marker::Model;
 
-/// Clauses over variables 1 to `vars`, numbered from 1 in the order in which they were added. All literals stand in one
-/// vector, with the place where each clause ends. A literal of another variable is kept as it is.
+/// Clauses over the variables 1 to `vars`, numbered from 1 in the order in which they were added. All literals are stored in one
+/// vector, with the place at which each clause ends. A literal of a variable outside this range is stored unchanged.
 #[derive(Debug, Drop)]
 pub struct ClauseList {
     vars: u32,
@@ -29,7 +29,7 @@ impl Model for ClauseList {
 }
 
 impl ClauseList {
-    /// No clause, over this many variables.
+    /// Returns an empty list over this many variables.
     pub fn new(alloc: Global, vars: u32) -> ClauseList
         ensures { result ≡ record { vars = vars; list = [] } }
     {
@@ -40,21 +40,21 @@ impl ClauseList {
         }
     }
 
-    /// The number of variables.
+    /// Returns the number of variables.
     pub fn vars(&self) -> u32
         ensures { result ≡ self.now.vars }
     {
         self.vars
     }
 
-    /// The number of clauses.
+    /// Returns the number of clauses.
     pub fn len(&self) -> u64
         ensures { result ≡ length self.now.list }
     {
         self.ends.len() as u64
     }
 
-    /// The clause of a number from 1 to `len`.
+    /// Lends the clause of a number from 1 to `len`.
     pub fn get(&self, i: u64) -> &[Lit]
         requires from_one { 1 ≤ i }
         requires to_len { i ≤ length self.now.list }
@@ -67,7 +67,7 @@ impl ClauseList {
         part_of(&self.lits, from, end)
     }
 
-    /// Puts a clause after the last. Where there is no memory for it, the list stays as it was.
+    /// Appends a clause. If memory runs out, the list stays as it was.
     pub fn add(&mut self, clause: &[Lit]) -> Result<(), NoMemory>
         ensures added { OnOk result (self.new ≡ record { vars = self.old.vars; list = self.old.list ++ clause.now ∷ [] }) }
         ensures unchanged { OnErr result (self.new ≡ self.old) }
@@ -85,7 +85,7 @@ impl ClauseList {
     }
 }
 
-// Where the clause at a place from 0 begins.
+// Returns the place at which the clause at place `at`, from 0, begins.
 fn start_of(ends: &[usize], at: usize) -> usize
     requires { at ≤ length ends.now }
     ensures { result ≡ slice_index_or (0 ∷ ends.now) at 0 }
@@ -93,7 +93,7 @@ fn start_of(ends: &[usize], at: usize) -> usize
     if at == 0 { 0 } else { ends[at - 1] }
 }
 
-// The literals from one place up to another.
+// Returns the literals from one place up to another.
 fn part_of(lits: &[Lit], from: usize, end: usize) -> &[Lit]
     requires in_order { from ≤ end }
     requires within { end ≤ length lits.now }

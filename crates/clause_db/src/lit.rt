@@ -1,9 +1,9 @@
-//! A literal.
+//! Literals.
 
 ghost use Rattle.std.specs.Prelude.{◌≡◌};
 ghost use Rattle.clause_db.specs.Clause.{opposite};
 
-/// A variable, from 1, or its opposite: what DIMACS CNF writes as a number and as its negative.
+/// A variable, numbered from 1, or its negation. DIMACS CNF writes the variable's number or its negative.
 #[derive(Clone, Copy, Debug, PartialEq, Eq, PartialOrd, Ord)]
 pub struct Lit {
     pub var: u64,
@@ -11,7 +11,7 @@ pub struct Lit {
 }
 
 impl Lit {
-    /// The opposite literal: true exactly where this one is false.
+    /// Returns the negation of the literal, which is true exactly if this one is false.
     pub fn opposite(self) -> Lit
         ensures { result ≡ opposite self }
     {

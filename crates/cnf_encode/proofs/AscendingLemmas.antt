@@ -1,4 +1,4 @@
--- Ascending lists: a search by halves, their length, and how many of one stand in another.
+-- Ascending lists: binary search, length, and how many numbers of one are in another.
 use Rattle.std.proofs.Common.{◌≡◌, ℕ, zero, suc, ◌+◌, ◌<◌, ◌≤◌, Bool, true, false, ◌==◌, ◌||◌, nat_lt, List, [], ◌∷◌, cond, length, get_or, take, refl, arith, ⊎_elim, eqb-true, eq-eqb, ne_eqb, map-id, Fits, w8}
 use Rattle.std.specs.List.{count_by}
 use Rattle.std.specs.List.Sorted.{IsNonDecreasingBy, IsPartitionPoint}
@@ -12,7 +12,7 @@ use Rattle.pack_defs.proofs.Members.{is_in-gives}
 use Rattle.pack_defs.proofs.Searches.{sorted-keys, rises-step}
 use Rattle.pack_defs.proofs.Words.{below-later, ascending-rest}
 
--- what ascends doesn't fall
+-- an ascending list does not fall
 pub rising : (xs : List ℕ) → is_ascending xs ≡ true → IsNonDecreasingBy (λ x. x) xs
 rising xs a =
     let sorted = sorted-keys (λ x. x) xs (rw map-id a) in
@@ -24,7 +24,7 @@ not-above x k h = grind (arith, nat_tests)
 above : (x k : ℕ) → nat_lt x k ≡ true → x < k
 above x k h = grind (arith, nat_tests)
 
--- a number of the list stands where the lower ones end
+-- a number of the list is at the place where the lower ones end
 pub place-is : (xs : List ℕ) (k n : ℕ) → is_ascending xs ≡ true → is_in xs k ≡ true → IsPartitionPoint (λ y. nat_lt y k ≡ true) (λ y. nat_lt y k ≡ false) xs n → (n < length xs) × (get_or xs n 0 ≡ k)
 place-is [] k n a m h = cc
 place-is (x ∷ xs) k zero a m h =
@@ -36,7 +36,7 @@ place-is (x ∷ xs) k (suc n) a m h =
     let later = place-is xs k n (ascending-rest x xs a) rest (λ i d l u. h.0 (suc i) d (omega arith) (omega arith), λ i d l u. h.1 (suc i) d (omega arith) (omega arith)) in
     (omega arith, later.1)
 
--- there is room for no more numbers than stand between two bounds
+-- at most as many numbers as there are between two bounds
 pub ascending-length : (xs : List ℕ) (low n : ℕ) → is_ascending xs ≡ true → low ≤ n → ((x : ℕ) → is_in xs x ≡ true → (low ≤ x) × (x < n)) → low + length xs ≤ n
 ascending-length [] low n a l h = omega arith
 ascending-length (x ∷ xs) low n a l h =
@@ -73,7 +73,7 @@ count-none p (y ∷ ys) h =
     let own : cond {A = ℕ} (p y) 1 0 ≡ 0 = cond-false (p y) 1 0 (h y (or_left (y == y) (is_in ys y) (eq-eqb y y refl))) in
     omega (arith, sum_by-cons (λ z. cond (p z) 1 0) y ys)
 
--- a number stands at most once in an ascending list
+-- a number occurs at most once in an ascending list
 count-once : (x : ℕ) (ys : List ℕ) → is_ascending ys ≡ true → count_by (λ y. x == y) ys ≤ 1
 count-once x [] a = omega arith
 count-once x (y ∷ ys) a =
@@ -99,7 +99,7 @@ count-either p q (y ∷ ys) =
     elim (p y) as (λ b. cond {A = ℕ} (b || q y) 1 0 ≤ cond {A = ℕ} b 1 0 + cond {A = ℕ} (q y) 1 0) [ true ↦ omega arith | false ↦ omega arith ] in
     omega arith
 
--- as many of an ascending list stand in another list as that one has numbers, at most
+-- at most as many numbers of an ascending list are in another list as that one is long
 pub count-most : (xs ys : List ℕ) → is_ascending ys ≡ true → count_by (is_in xs) ys ≤ length xs
 count-most [] ys a = omega (arith, count-none (λ y. false) ys (λ y m. refl))
 count-most (x ∷ xs) ys a =

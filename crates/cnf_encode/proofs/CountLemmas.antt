@@ -1,4 +1,4 @@
--- How many clauses a formula has.
+-- For `count`: the number of clauses of a formula.
 use Rattle.std.proofs.Common.{◌≡◌, ℕ, ◌+◌, ◌-◌, ◌*◌, ◌/◌, ◌<◌, ◌≤◌, Bool, true, List, [], ◌∷◌, ◌++◌, cond, map, filter, flat_map, length, get_or, take, refl, sym, ap, ◌∙◌, arith, length-append}
 use Rattle.std.specs.List.{count_by, sum_by}
 use Rattle.std.proofs.lemmas.List.{length-map, take_more}
@@ -33,13 +33,13 @@ twos-half variable (c ∷ cs) n e =
     let own : n ≡ length (map variable cs) + 1 = omega (arith, e, long) in
     rw less (rw own (omega (arith, two)))
 
--- one station more of a sum
+-- one more station of a sum
 pub sum-more : (f : ℕ → ℕ) (set : List ℕ) (i : ℕ) → i < length set → sum_by f (take (i + 1) set) ≡ sum_by f (take i set) + f (get_or set i 0)
 sum-more f set i l =
     let more = ap (sum_by f) (take_more set i 0 l) ∙ sum_by-append f (take i set) (get_or set i 0 ∷ []) in
     omega (arith, more)
 
--- the count up to a place is at most so much for each station of the book
+-- the count up to a place is bounded by a constant for each station of the book
 pub no-two-step : (book : BookView) (set : List ℕ) (i count n long : ℕ) → i < length set → count ≤ 32768 * count_by (is_in (stations_of book)) (take i set)
     → long ≡ length (domain_of book (get_or set i 0)) → n ≤ 128 * long → long ≤ 256 → count + n ≤ 32768 * count_by (is_in (stations_of book)) (take (i + 1) set)
 no-two-step book set i count n long l few e most small =

@@ -1,4 +1,4 @@
--- A model of the packing formula gives a clean map of the set.
+-- For `decode`: a model of the packing formula gives a clean map of the set.
 use Rattle.std.proofs.Common.{◌≡◌, ℕ, ◌+◌, ◌<◌, Bool, true, false, not, cond, ◌==◌, ◌&&◌, ◌||◌, List, [], ◌∷◌, ◌++◌, map, filter, flat_map, Contains, refl, sym, ap, ◌∙◌, subst, ⊎_elim, eqb-true, eq-eqb, find, drop, get_or, length, Some, None, arith, take, take_all, ◌≤◌}
 use Rattle.std.specs.List.{list_any, list_all}
 use Rattle.std.proofs.lemmas.Bool.{and_parts, and_from, or_cases, or_left, or_right, or_from, both_ways, cond-true, cond-false, false_from_ne_true}
@@ -31,7 +31,7 @@ parts-hold book set model h =
     let inner = and_parts (list_all (clause_holds model) A) (list_all (clause_holds model) B) (sym (list_all-append (clause_holds model) A B) ∙ outer.0) in
     (inner.0, inner.1, outer.1)
 
--- the clause for one of some variables holds where one is true
+-- the clause that one of some variables is true holds if one is
 pub some-holds : (model : ℕ → Bool) (f : ℕ → ℕ) (xs : List ℕ) → clause_holds model (at_least_one (map f xs)) ≡ list_any (λ x. model (f x)) xs
 some-holds model f xs = list_any-map (lit_holds model) pos_lit (map f xs) ∙ list_any-map (λ v. model v) f xs
 
@@ -72,7 +72,7 @@ both-false true true e f = refl
 both-false true false e f = cc
 both-false false w e f = cc
 
--- the pair of two entries whose variables are true is not kept apart
+-- a pair of two entries whose variables are true has a clause that is false
 pair-false : (book : BookView) (set : List ℕ) (model : ℕ → Bool) (x y : ℕ × ℕ) (p : Pair) →
     model (variable_of book set x) ≡ true → model (variable_of book set y) ≡ true →
     ((p.f == x.0) && ((p.a == x.1) && ((p.g == y.0) && (p.b == y.1)))) ≡ true →
@@ -93,7 +93,7 @@ swapped true false = refl
 swapped false true = refl
 swapped false false = refl
 
--- the pair is within the set where it joins entries of stations of the set
+-- a pair that joins entries of stations of the set is within the set
 within : (set : List ℕ) (p : Pair) (x y : ℕ × ℕ) → is_in set x.0 ≡ true → is_in set y.0 ≡ true → joins p x y ≡ true → is_inside set p ≡ true
 within set p x y sx sy j =
     ⊎_elim
@@ -149,7 +149,7 @@ decoded-clean book set model h = record {
       no-pair book set model x y book.pairs (decoded-true book set model x h hx) (decoded-true book set model y h hy) (decoded-entry book set model set x hx).0 (decoded-entry book set model set y hy).0 (parts-hold book set model h).2;
 }
 
--- the map that a model says is clean and of exactly the set
+-- the map that a model describes is clean and of exactly the set
 pub decoded-packing : (book : BookView) (set : List ℕ) (model : ℕ → Bool) → Satisfies model (packing_formula book set) → IsPacking book set (decoded book set model)
 decoded-packing book set model h = record { stations = decoded-stations book set model; clean = decoded-clean book set model h }
 
@@ -157,7 +157,7 @@ decoded-packing book set model h = record { stations = decoded-stations book set
 abbrev pub is_on : BookView → List ℕ → (ℕ → Bool) → ℕ → ℕ → Bool
 is_on book set model s c = model (variable_of book set (s, c))
 
--- a search that has come to a place ends there, or goes on behind it
+-- a search that is at a place ends there, or continues after it
 pub find-here : (p : ℕ → Bool) (xs : List ℕ) (i : ℕ) → i < length xs → p (get_or xs i 0) ≡ true → find p (drop i xs) ≡ Some (get_or xs i 0)
 find-here p xs i l t =
     ap (find p) (drop_more xs i 0 l) ∙ cond-true (p (get_or xs i 0)) (Some (get_or xs i 0)) (find p (drop (i + 1) xs)) t
@@ -189,7 +189,7 @@ on-read book set channels offsets model i j r own a d h l k e =
 abbrev decoded_on : BookView → List ℕ → (ℕ → Bool) → List ℕ → List (ℕ × ℕ)
 decoded_on book set model stations = map (λ s. (s, chosen book set model s)) stations
 
--- the entries, once every station has its own
+-- the entries once every station has its own
 pub decoded-whole : (book : BookView) (set : List ℕ) (model : ℕ → Bool) (entries : List (ℕ × ℕ)) (i : ℕ) → length set ≤ i → entries ≡ map (λ s. (s, chosen book set model s)) (take i set) → entries ≡ decoded book set model
 decoded-whole book set model entries i l e = e ∙ ap (λ xs. decoded_on book set model xs) (take_all i set l)
 

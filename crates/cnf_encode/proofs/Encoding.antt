@@ -1,4 +1,4 @@
--- A clean map of the set gives a model of the packing formula.
+-- For `laws`: a clean map of the set gives a model of the packing formula.
 use Rattle.std.proofs.Common.{◌≡◌, ℕ, ◌+◌, ◌<◌, ◌≤◌, Bool, true, false, not, ◌==◌, ◌||◌, if◌then◌else◌, List, [], ◌∷◌, ◌++◌, map, filter, flat_map, refl, sym, ap, ◌∙◌, subst, ⊎_elim, eqb-true, eq-eqb, arith}
 use Rattle.std.specs.List.{list_any, list_all}
 use Rattle.std.proofs.lemmas.Bool.{and_from, or_cases, or_left, or_right, both_ways}
@@ -16,7 +16,7 @@ use Rattle.cnf_encode.proofs.Decoding.{some-holds}
 use Rattle.cnf_encode.proofs.PairLemmas.{list_all-filter}
 use Rattle.pack_defs.proofs.Words.{list_all-map, list_all-flat_map, same_entry-same, same_entry-itself, Contains-from_has_entry, below-later, ascending-rest, station-in, one-entry, pair-forbids, list_any-at, its-entry}
 
--- a clean map of exactly an ascending set, where domains ascend
+-- a clean map of exactly an ascending set, if domains ascend
 record IsMapOf (book : BookView) (set : List ℕ) (entries : List (ℕ × ℕ)) : Type 0 where
   pub domains : (s : ℕ) → is_ascending (domain_of book s) ≡ true
   pub rises : is_ascending set ≡ true
@@ -28,7 +28,7 @@ number-positive (y ∷ ys) x =
     let go : (b : Bool) → 1 ≤ (if b then 1 else number_of ys x + 1) = λ b. elim b as (λ b. 1 ≤ (if b then 1 else number_of ys x + 1)) [ true ↦ omega arith | false ↦ omega arith ] in
     go (same_entry y x)
 
--- entries with one number are the same, where the list has the one
+-- entries with the same number are equal if the list has one of them
 pub number-same : (ys : List (ℕ × ℕ)) (x y : ℕ × ℕ) → has_entry ys x ≡ true → number_of ys x ≡ number_of ys y → x ≡ y
 number-same [] x y h e = cc
 number-same (z ∷ zs) x y h e =
@@ -100,7 +100,7 @@ entries-chosen book set entries h x k =
     let s : is_in set x.0 ≡ true = subst (λ z. is_in z x.0 ≡ true) h.packing.stations (station-in entries x k) in
     choices-have book set x.0 x.1 s on
 
--- two entries that don't both stand are not both true
+-- two entries that the map does not have together are not both true
 not-both-holds : (book : BookView) (set : List ℕ) (entries : List (ℕ × ℕ)) (x y : ℕ × ℕ) → IsMapOf book set entries → (has_entry entries x ≡ true → has_entry entries y ≡ true → ⊥) → clause_holds (model_of book set entries) (not_both (variable_of book set x) (variable_of book set y)) ≡ true
 not-both-holds book set entries x y h f =
     not-both (model_of book set entries (variable_of book set x)) (model_of book set entries (variable_of book set y))
@@ -156,7 +156,7 @@ map-satisfies book set entries h =
     (list_all-append (clause_holds model) A B ∙ and_from (list_all (clause_holds model) A) (list_all (clause_holds model) B) (least-holds book set entries h) (most-holds book set entries h))
     (pairs-hold book set entries h)
 
--- the model that a clean map says makes the formula true
+-- the model that a clean map describes makes the formula true
 pub packing-satisfies : (book : BookView) (set : List ℕ) (entries : List (ℕ × ℕ)) → IsInOrder book → is_ascending set ≡ true → IsPacking book set entries → Satisfies (model_of book set entries) (packing_formula book set)
 packing-satisfies book set entries o a p =
     map-satisfies book set entries (record { domains = λ s. channels_in-ascend book.domains s o.domains.channels; rises = a; packing = p })

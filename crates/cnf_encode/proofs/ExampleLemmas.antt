@@ -20,7 +20,7 @@ short_model : Satisfies (listed_model (false ∷ true ∷ true ∷ [])) (packing
 unfolding packing_formula three_stations
 short_model = refl
 
--- the first station on the first channel and the second on the other, and the other way round, without the last variable
+-- the first station on the first channel and the second on the other, and then the reverse, without the last variable
 pub two_stations_hold : (book : BookView) → book ≡ three_stations → Satisfies (listed_model (true ∷ false ∷ false ∷ true ∷ [])) (packing_formula book (1 ∷ 2 ∷ []))
 two_stations_hold book e =
     subst (λ b. Satisfies (listed_model (true ∷ false ∷ false ∷ true ∷ [])) (packing_formula b (1 ∷ 2 ∷ []))) (sym e) two_stations_model

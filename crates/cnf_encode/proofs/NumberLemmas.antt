@@ -1,4 +1,4 @@
--- The number of a choice: the variables of the stations before, and the place of its channel.
+-- For `numbering`: the number of a choice is the number of variables of the stations before, plus the place of its channel.
 use Rattle.std.proofs.Common.{◌≡◌, ℕ, zero, suc, ◌+◌, ◌*◌, ◌<◌, ◌≤◌, Bool, true, false, ◌==◌, ◌&&◌, if◌then◌else◌, List, [], ◌∷◌, ◌++◌, cond, map, length, get_or, take, refl, sym, ap, ap₂, ◌∙◌, arith, subst, ⊎_elim, eq-eqb, ne_eqb, length-append}
 use Rattle.std.specs.List.{count_by}
 use Rattle.std.proofs.Math.Bool.{and-false}
@@ -18,7 +18,7 @@ use Rattle.cnf_encode.proofs.AscendingLemmas.{ascending-take, count-most}
 abbrev pub row : ℕ → List ℕ → List (ℕ × ℕ)
 row s channels = map (λ c. (s, c)) channels
 
--- one station more
+-- one more station
 pub variables-step : (book : BookView) (xs : List ℕ) (s : ℕ) → variables_in book (xs ++ s ∷ []) ≡ variables_in book xs + length (domain_of book s)
 variables-step book [] s =
     let row_long : length (row s (domain_of book s)) ≡ length (domain_of book s) = length-map (domain_of book s) (entry s) in
@@ -32,7 +32,7 @@ variables-step book (x ∷ xs) s =
 pub variables-more : (book : BookView) (set : List ℕ) (i : ℕ) → i < length set → variables_in book (take (i + 1) set) ≡ variables_in book (take i set) + length (domain_of book (get_or set i 0))
 variables-more book set i l = rw (take_more set i 0 l) (variables-step book (take i set) (get_or set i 0))
 
--- a station of the book has at most 256 variables, and another one none
+-- a station of the book has at most 256 variables, and others have none
 pub few-channels : (book : BookView) (s n : ℕ) → n ≡ length (domain_of book s) → n ≤ 256 → n ≤ 256 * cond (is_in (stations_of book) s) 1 0
 few-channels book s n e l =
     (elim (is_in (stations_of book) s) as (λ b. is_in (stations_of book) s ≡ b → n ≤ 256 * cond b 1 0) [
@@ -40,7 +40,7 @@ few-channels book s n e l =
       | false ↦ λ m. let none : length (domain_of book s) ≡ 0 = ap length (channels_in-none book.domains s m) in omega arith
     ]) refl
 
--- the count of the stations up to a place, with one more
+-- the count of the stations up to a place, and one more
 pub count-step : (book : BookView) (set : List ℕ) (i before n : ℕ) → is_ascending set ≡ true → length book.domains ≤ 8192 → i < length set → IsCount book (take i set) before → n ≡ length (domain_of book (get_or set i 0)) → n ≤ 256 → IsCount book (take (i + 1) set) (before + n)
 count-step book set i before n a stations l h e small =
     let s = get_or set i 0 in
@@ -114,7 +114,7 @@ variable-read book set channels before i j s c own a d l e k f counted =
     let at = variable-at book set i j s c a (subst (λ z. is_ascending z ≡ true) own d) l e (subst (λ z. j < length z) own k) (subst (λ z. get_or z j 0 ≡ c) own f) in
     omega (arith, at)
 
--- one variable more of a station
+-- one more variable of a station
 pub variables-push : (f : ℕ → ℕ) (channels : List ℕ) (j v : ℕ) (variables more : List ℕ) → j < length channels → v ≡ f (get_or channels j 0) → variables ≡ map f (take j channels) → more ≡ variables ++ v ∷ [] → more ≡ map f (take (j + 1) channels)
 variables-push f channels j v variables more l own so_far e =
     e ∙ ap₂ (λ xs x. xs ++ x ∷ []) so_far own ∙ sym (ap (map f) (take_more channels j 0 l) ∙ map-append f (take j channels) (get_or channels j 0 ∷ []))

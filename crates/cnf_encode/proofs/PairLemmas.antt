@@ -1,4 +1,4 @@
--- The pairs within a set, station by station.
+-- For `encode`: the pairs within a set, station by station.
 use Rattle.std.proofs.Common.{◌≡◌, ℕ, suc, ◌+◌, ◌<◌, ◌≤◌, Bool, true, false, ◌==◌, ◌&&◌, ◌||◌, cond, List, [], ◌∷◌, ◌++◌, Contains, filter, map, flat_map, length, get_or, take, refl, sym, ap, ap₂, ◌∙◌, arith, subst, ⊎_elim, eqb-true, ne_eqb}
 use Rattle.std.specs.List.{list_all}
 use Rattle.std.specs.List.Sorted.{IsNonDecreasingBy}
@@ -24,11 +24,11 @@ station_clauses book set s = map (pair_clause book set) (pairs_inside_from book 
 pub list_all-filter : {A : Type 0} (q w : A → Bool) (xs : List A) → list_all q xs ≡ true → list_all q (filter w xs) ≡ true
 list_all-filter q w xs h = list_all-from q (filter w xs) (λ x c. list_all-gives q xs x h (Contains-from_filter w xs x c).0)
 
--- what holds of all holds of the one at a place
+-- what holds of all items holds of the one at a place
 pub list_all-get : {A : Type 0} (q : A → Bool) (xs : List A) (k : ℕ) (d : A) → list_all q xs ≡ true → k < length xs → q (get_or xs k d) ≡ true
 list_all-get q xs k d h l = list_all-gives q xs (get_or xs k d) h (k, l, get_or_default xs k (get_or xs k d) d l)
 
--- one pair more, which is passed over, or adds its clause
+-- one more pair, which is skipped or adds its clause
 pub pairs-skip : (clause : Pair → List Lit) (q : Pair → Bool) (list initial : List (List Lit)) (ps : List Pair) (k : ℕ) (d : Pair) → k < length ps → q (get_or ps k d) ≡ false → list ≡ initial ++ map clause (filter q (take k ps)) → list ≡ initial ++ map clause (filter q (take (k + 1) ps))
 pairs-skip clause q list initial ps k d l fails e =
     let same : filter q (take (k + 1) ps) ≡ filter q (take k ps) =
@@ -43,7 +43,7 @@ pairs-add clause q new list initial ps k d l passes e f =
     f ∙ ap (λ xs. xs ++ clause p ∷ []) e ∙ append_assoc initial (map clause (filter q (take k ps))) (clause p ∷ [])
     ∙ ap (λ xs. initial ++ xs) (sym (map-append clause (filter q (take k ps)) (p ∷ [])) ∙ ap (map clause) (sym more))
 
--- one station more
+-- one more station
 pub stations-more : (f : ℕ → List (List Lit)) (new list initial : List (List Lit)) (set : List ℕ) (i : ℕ) → i < length set → list ≡ initial ++ flat_map f (take i set) → new ≡ list ++ f (get_or set i 0) → new ≡ initial ++ flat_map f (take (i + 1) set)
 stations-more f new list initial set i l e g =
     g ∙ ap (λ xs. xs ++ f (get_or set i 0)) e ∙ flat_map_more f initial (take i set) (get_or set i 0) ∙ ap (λ xs. initial ++ flat_map f xs) (sym (take_more set i 0 l))
@@ -62,13 +62,13 @@ head-least p ps q h c = subst (λ z. p.f ≤ z.f) c.2 (h 0 c.0 q (omega arith) c
 not-in : (x : ℕ) (xs : List ℕ) (y : ℕ) → ((z : ℕ) → is_in xs z ≡ true → x < z) → y ≤ x → is_in xs y ≡ false
 not-in x xs y above l = false_from_ne_true (is_in xs y) (λ m. let less : x < y = above y m in omega arith)
 
--- a pair that is kept only as one of the least station's
+-- a pair that is kept as one of the least station's
 kept-here : (q : Pair → Bool) (p : Pair) (e : Bool) (own later both : List Pair) → filter q own ++ later ≡ both → filter q (cond e (p ∷ own) own) ++ later ≡ cond ((e || false) && q p) (p ∷ both) both
 kept-here q p true own later both h =
     elim (q p) as (λ b. cond b (p ∷ filter q own) (filter q own) ++ later ≡ cond b (p ∷ both) both) [ true ↦ ap (λ zs. p ∷ zs) h | false ↦ h ]
 kept-here q p false own later both h = h
 
--- the kept pairs of the least station, and then those of the later ones
+-- the pairs of the least station that are kept, and then those of the later ones
 one-station : (q : Pair → Bool) (x : ℕ) (xs : List ℕ) (ps : List Pair) → ((z : ℕ) → is_in xs z ≡ true → x < z) → IsNonDecreasingBy (λ p. p.f) ps →
     filter q (filter (λ p. p.f == x) ps) ++ filter (λ p. is_in xs p.f && q p) ps ≡ filter (λ p. is_in (x ∷ xs) p.f && q p) ps
 one-station q x xs [] above h = refl
@@ -102,7 +102,7 @@ map-flat_map : {A B C : Type 0} (g : B → C) (f : A → List B) (xs : List A) �
 map-flat_map g f [] = refl
 map-flat_map g f (x ∷ xs) = map-append g (f x) (flat_map f xs) ∙ ap (λ zs. map g (f x) ++ zs) (map-flat_map g f xs)
 
--- the pairs of the stations, one after another, are those of the book within the set
+-- the pairs of the stations in order are those of the book within the set
 pub by-station : (book : BookView) (set : List ℕ) → is_ascending set ≡ true → pairs_ascend book.pairs ≡ true → flat_map (station_clauses book set) set ≡ map (pair_clause book set) (filter (is_inside set) book.pairs)
 by-station book set a h =
     sym (map-flat_map (pair_clause book set) (pairs_inside_from book set) set)
@@ -120,7 +120,7 @@ pair-channels book pairs f k d o e l =
     let on_domains : list_all (is_within book.domains) pairs ≡ true = rw e (list_all-filter (is_within book.domains) (λ p. p.f == f) book.pairs o.on_domains) in
     and_parts (is_in (domain_of book p.f) p.a) (is_in (domain_of book p.g) p.b) (list_all-get (is_within book.domains) pairs k d on_domains l)
 
--- the clause that the code writes of a pair
+-- the clause that the code adds for a pair
 pub pair-written : (book : BookView) (set : List ℕ) (p : Pair) (f g v w : ℕ) → p.f ≡ f → g ≡ p.g → v ≡ variable_of book set (f, p.a) → w ≡ variable_of book set (g, p.b) → not_both v w ≡ pair_clause book set p
 pair-written book set p f g v w ef eg ev ew =
     ap₂ not_both (ev ∙ ap (λ s. variable_of book set (s, p.a)) (sym ef)) (ew ∙ ap (λ s. variable_of book set (s, p.b)) eg)

@@ -1,4 +1,4 @@
--- A law of the packing formula. It is proved in `src/laws`, beside those that are short enough to stand there.
+-- A law of the packing formula. It is proved in `src/laws`. Shorter laws are stated there directly.
 use Rattle.std.specs.Prelude.{ℕ, List, IsTrue}
 use Rattle.clause_db.specs.Clause.{Satisfies}
 use Rattle.pack_defs.specs.Book.{BookView, IsInOrder}
@@ -7,7 +7,7 @@ use Rattle.pack_defs.specs.Packing.{IsPacking}
 use Rattle.cnf_encode.specs.Decode.{model_of}
 use Rattle.cnf_encode.specs.Formula.{packing_formula}
 
--- a clean map of exactly an ascending set says a model of the formula, in a book in order
+-- The law that, in a book in order, a clean map of exactly an ascending set describes a model of the formula.
 abbrev pub MapGivesModel : Type 0
 MapGivesModel =
     (book : BookView) (set : List ℕ) (entries : List (ℕ × ℕ)) →

@@ -1,4 +1,4 @@
-//! How many clauses the packing formula of a set has.
+//! The number of clauses of a packing formula. A proof text numbers its lines after them.
 
 ghost use Rattle.std.specs.Prelude.{◌≡◌, ◌*◌, ◌+◌, ◌<◌, ◌≤◌, ◌^◌, ℕ, IsTrue, length, map, slice_index};
 ghost use Rattle.std.specs.List.{filter, flat_map};
@@ -10,9 +10,9 @@ ghost use Rattle.cnf_encode.specs.Formula.{at_most_one, is_inside, packing_formu
 use crate::numbering::{channels_of, count_of};
 use pack_defs::book::Book;
 
-/// How many clauses the packing formula of an ascending set has. It makes none of them and takes no memory: it reads how many
-/// channels each station of the set has, and the pairs from it, found by halves. There is room behind it for the numbers of
-/// 2^32 lines of a log.
+/// Returns the number of clauses of the packing formula of an ascending set, without making them. Only the number of channels and
+/// the pairs from each station of the set are read. Takes no memory. The numbers of 2^32 lines of a log after these clauses fit
+/// too.
 pub fn clause_count(book: &Book, set: &[u32]) -> u64
     requires { IsTrue (is_ascending set.now) }
     ensures count { result ≡ length (packing_formula book.now set.now) }
@@ -21,13 +21,13 @@ pub fn clause_count(book: &Book, set: &[u32]) -> u64
     set.len() as u64 + no_two_count(book, set) + pair_count(book, set)
 }
 
-// How many clauses say that no station of the set is on two channels.
+// Returns how many clauses say that no station of the set is on two channels.
 fn no_two_count(book: &Book, set: &[u32]) -> u64
     requires { IsTrue (is_ascending set.now) }
     ensures count { result ≡ length (flat_map (λ s. at_most_one (station_variables book.now set.now s)) set.now) }
     ensures few { result ≤ 32768 * MOST_STATIONS }
 {
-    // So the sum fits.
+    // The sum does not overflow.
     book.keeps_limit();
     let mut count = 0;
     for i in 0..set.len() {
@@ -36,7 +36,7 @@ fn no_two_count(book: &Book, set: &[u32]) -> u64
     count
 }
 
-// How many clauses say that no two of a station's variables are true: one for each two of its channels.
+// Returns how many clauses say that no two of a station's variables are true: one for each two of its channels.
 fn no_two_of(channels: &[u8]) -> u64
     requires { IsTrue (is_ascending channels.now) }
     ensures count { (variable : ℕ → ℕ) → result ≡ length (at_most_one (map variable channels.now)) }
@@ -49,13 +49,13 @@ fn no_two_of(channels: &[u8]) -> u64
     n * (n - 1) / 2
 }
 
-// How many pairs of the book are between two stations of the set.
+// Returns how many pairs of the book are between two stations of the set.
 fn pair_count(book: &Book, set: &[u32]) -> u64
     requires { IsTrue (is_ascending set.now) }
     ensures count { result ≡ length (filter (is_inside set.now) book.now.pairs) }
     ensures few { result < 2 ^ 62 }
 {
-    // So the sum fits.
+    // The sum does not overflow.
     book.keeps_order();
     book.keeps_to_memory();
     let mut count = 0;
@@ -65,7 +65,7 @@ fn pair_count(book: &Book, set: &[u32]) -> u64
     count
 }
 
-// How many pairs of the book are from the station at place `i` of the set to another one of the set.
+// Returns how many pairs of the book are from the station at place `i` of the set to a station of the set.
 fn pairs_inside(book: &Book, set: &[u32], i: usize) -> u64
     requires ascending { IsTrue (is_ascending set.now) }
     requires in_set { i < length set.now }

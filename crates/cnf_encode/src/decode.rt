@@ -13,9 +13,9 @@ use pack_defs::book::Book;
 use pack_defs::channel_map::ChannelMap;
 use std::alloc::{AllocError as NoMemory, Global};
 
-/// The channel map that a model of the packing formula of an ascending set says: each station on the first channel of its
-/// domain whose variable is true. Variable `v` is `model[v - 1]`, and one past the end is false. The map is clean and has
-/// exactly the set's stations. The only error is want of memory.
+/// Returns the channel map that a model of the packing formula of an ascending set describes. Each station is on the first channel
+/// of its domain whose variable is true. The value of variable `v` is `model[v - 1]`; one after the end is false. The map is clean
+/// and has exactly the set's stations. Fails only if memory runs out.
 pub fn decode(
     alloc: Global,
     book: &Book,
@@ -35,7 +35,7 @@ pub fn decode(
     ChannelMap::of(alloc, &entries)
 }
 
-// The first channel of the station at place `i` of the set whose variable is true.
+// Returns the first channel of the station at place `i` of the set whose variable is true.
 fn chosen(book: &Book, set: &[u32], offsets: &[u32], i: usize, model: &[bool]) -> u8
     requires ascending { IsTrue (is_ascending set.now) }
     requires offsets { AreOffsets book.now set.now offsets.now }
@@ -48,11 +48,11 @@ fn chosen(book: &Book, set: &[u32], offsets: &[u32], i: usize, model: &[bool]) -
             return *c;
         }
     }
-    // A model makes the clause true that asks for one of them.
+    // A model satisfies the clause that requires one of them.
     unreachable!()
 }
 
-// Whether the variable, from 1, is true.
+// Whether the variable, numbered from 1, is true.
 fn is_true(model: &[bool], v: usize) -> bool
     requires { 1 ≤ v }
     ensures { result ≡ listed_model model.now v }

@@ -9,8 +9,8 @@ ghost use Rattle.cnf_encode.specs.ByStation.{AreOffsets, IsCount};
 use pack_defs::book::Book;
 use std::alloc::{AllocError as NoMemory, Global};
 
-/// The variable, from 1, that is true where station `s` of an ascending set is on channel `c` of its domain, in the
-/// packing formula of the set. It adds up the domains of the stations before `s`.
+/// Returns the variable, numbered from 1, that is true if `station` of an ascending set is on channel `c` of its domain. Costs a
+/// lookup of the domain of each station before it.
 pub fn var(book: &Book, set: &[u32], station: u32, c: u8) -> u32
     requires ascending { IsTrue (is_ascending set.now) }
     requires of_set { IsTrue (is_in set.now station) }
@@ -25,7 +25,7 @@ pub fn var(book: &Book, set: &[u32], station: u32, c: u8) -> u32
     before + place_of(channels_of(book, station), c) as u32 + 1
 }
 
-// For each station of an ascending set, how many variables the stations before it have, and last how many all have.
+// Returns for each station of an ascending set how many variables the stations before it have, and at the end how many all have.
 pub(crate) fn offsets(alloc: Global, book: &Book, set: &[u32]) -> Result<Vec<u32>, NoMemory>
     requires { IsTrue (is_ascending set.now) }
     ensures { IfOk result (λ offsets. AreOffsets book.now set.now offsets.items) }
@@ -40,19 +40,19 @@ pub(crate) fn offsets(alloc: Global, book: &Book, set: &[u32]) -> Result<Vec<u32
     Ok(offsets)
 }
 
-// How many variables the stations up to place `i` have with this one, where those before it have `before`.
+// Returns how many variables the stations up to and with place `i` have, if those before it have `before`.
 fn with_station(book: &Book, set: &[u32], i: usize, before: u32) -> u32
     requires ascending { IsTrue (is_ascending set.now) }
     requires in_set { i < length set.now }
     requires counted { IsCount book.now (take i set.now) before }
     ensures { IsCount book.now (take (i + 1) set.now) result }
 {
-    // So the sum fits.
+    // The sum does not overflow.
     book.keeps_limit();
     before + count_of(channels_of(book, set[i]))
 }
 
-// How many channels these are: at most 256, as they ascend.
+// Returns the number of these channels, which is at most 256 since they ascend.
 pub(crate) fn count_of(channels: &[u8]) -> u32
     requires { IsTrue (is_ascending channels.now) }
     ensures count { result ≡ length channels.now }
@@ -61,7 +61,7 @@ pub(crate) fn count_of(channels: &[u8]) -> u32
     channels.len() as u32
 }
 
-// The channels of a station, which ascend.
+// Lends the channels of a station, which ascend.
 pub(crate) fn channels_of(book: &Book, station: u32) -> &[u8]
     ensures channels { result.now ≡ domain_of book.now station }
     ensures ascending { IsTrue (is_ascending result.now) }
@@ -70,7 +70,7 @@ pub(crate) fn channels_of(book: &Book, station: u32) -> &[u8]
     book.domain(station)
 }
 
-// The place of one of these ascending channels, by halves.
+// Returns the place of one of these ascending channels, by binary search.
 pub(crate) fn place_of(channels: &[u8], c: u8) -> usize
     requires ascending { IsTrue (is_ascending channels.now) }
     requires has { IsTrue (is_in channels.now c) }

@@ -1,4 +1,4 @@
--- The number that a text is, from what its parsing answered; and the bounds of the numbers that the words ask for.
+-- The number that a text is, from the result of parsing it; and the bounds of the numbers on the command line.
 use Rattle.std.proofs.Common.{◌≡◌, ◌<◌, ◌≤◌, ◌⊎◌, ◌∙◌, ◌^◌, ℕ, Bool, true, false, inl, inr, List, Option, Some, None, if◌then◌else◌, refl, sym, ap, subst, arith}
 use Rattle.std.specs.Prelude.{MatchOption, Result, Ok, Err, codes, option_and_then, option_map, ⊤}
 use Rattle.std.specs.Str.{bytes_eq}
@@ -32,7 +32,7 @@ number-bounds least most n text is = elim (cases_Bool (is_unsigned_in least most
       cc (sym none ∙ is)
 ]
 
--- ---- from what parsing answers
+-- ---- from the result of parsing
 
 pub parsed-in : {E : Type 0} (k least most n : ℕ) (text : List ℕ) (r : Result ℕ E) → ParsesUnsigned k 10 text r → r ≡ Ok n → n < 2 ^ 64 → least ≤ n → n ≤ most → Some n ≡ number_within least most text
 parsed-in k least most n text (Ok x) p is small low high =
@@ -66,13 +66,13 @@ parsed-fits k n text (Ok x) p is =
     subst (λ z. z < 2 ^ k) (sym p.1 ∙ own) p.0.1
 parsed-fits k n text (Err e) p is = cc
 
--- ---- the numbers that the words ask for
+-- ---- the numbers on the command line
 
 within-bounds : (most : ℕ) (text : Option Text) (n : ℕ) → option_and_then (number_within 1 most) text ≡ Some n → (1 ≤ n) × (n ≤ most)
 within-bounds most (Some text) n is = number-bounds 1 most n text is
 within-bounds most None n is = cc
 
--- The size that a command asks for, or its step, is in its bounds; no step is settled of a live auction, and none is gone on with.
+-- the size or step of a command is within its bounds; `import` and `resume` have no owners' file
 abbrev IsBounded : Command → Type 0
 IsBounded (run names) = ⊤
 IsBounded (check names) = ⊤
@@ -96,7 +96,7 @@ if-all : (P : Command → Type 0) (b : Bool) (x y : Option Command) → MatchOpt
 if-all P true x y h k = h
 if-all P false x y h k = k
 
--- what holds of each value holds where there is one
+-- a fact that holds of each value holds of an option
 each : {A : Type 0} (P : A → Type 0) (o : Option A) → ((x : A) → P x) → MatchOption o ⊤ P
 each P (Some x) h = h x
 each P None h = tt
@@ -113,7 +113,7 @@ export-bounded rows =
     then-all _ _ (step_named rows) (λ step step_is.
     then-all _ _ (first_of (codes "CNF") rows) (λ formula formula_is. within-bounds step_limit (first_of (codes "STEP") rows) step step_is)))
 
--- without a word for it no owners' file is named
+-- without an argument for it, no owners' file is named
 input-valued : (rows : List Row) → MatchOption (input_names rows) ⊤ (λ names. names.owners ≡ None)
 input-valued rows =
     then-all _ _ (first_of (codes "DOMAINS") rows) (λ domains domains_are.

@@ -1,4 +1,4 @@
--- The command that the words are, from what `clap` found.
+-- The command of a command line, from what `clap` found. For `words::read_words`.
 use Rattle.std.proofs.Common.{◌≡◌, ◌≢◌, ◌∙◌, true, inl, inr, List, [], ◌∷◌, length, Option, None, if◌then◌else◌, sym, ap, subst, arith}
 use Rattle.std.proofs.lemmas.Bool.{ne_eqb}
 use Rattle.std.specs.Prelude.{option_and_then}
@@ -8,7 +8,7 @@ use Rattle.clap.specs.declared.error.Error.{Error}
 use Rattle.clap.specs.declared.error.kind.ErrorKind.TheVariants.{OutOfMemory}
 use Rattle.command_words.specs.Words.{Command, command_of, named_command, program_app}
 
--- what any such program makes of words that it has no fault for
+-- the command that any such program finds in words without a fault
 command-by : (p : App) (words : List Text) (rows : Option (Text × List Row)) (order : Option Command) → fault_of p words ≡ [] → rows ≡ subcommand_of p words → order ≡ option_and_then named_command rows →
     (if is_empty (fault_of p words) then option_and_then named_command (subcommand_of p words) else None) ≡ order
 command-by p words rows order free found named =
@@ -25,7 +25,7 @@ command-from p words rows order is kinds matches named =
     subst (λ q. (if is_empty (fault_of q words) then option_and_then named_command (subcommand_of q words) else None) ≡ order) is
     (command-by p words rows order (kinds free) found.1 named)
 
--- where its error isn't want of memory, there is a fault
+-- if the error is not out of memory, the words have a fault
 no-command : (kinds : Kinds) (order : Option Command) (e : Error) → HasKind kinds e → kind_of e ≢ OutOfMemory → (if is_empty kinds then order else None) ≡ None
 no-command [] order e (inl memory) other = absurd (other memory)
 no-command [] order e (inr none) other = absurd none

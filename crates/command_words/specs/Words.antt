@@ -1,4 +1,4 @@
--- What the words of the command line ask for, by the definition that `clap` gives of a simple command.
+-- The command that a command line asks for, by the definition that `clap` gives of a simple command.
 use Rattle.std.specs.Prelude.{ℕ, Bool, true, List, [], ◌∷◌, ◌++◌, Option, Some, None, codes, count_by, find, if◌then◌else◌, nat_lt, option_and_then, option_map, ⊤}
 use Rattle.std.specs.Option.{option_map_or}
 use Rattle.std.specs.Str.{bytes_eq}
@@ -25,45 +25,45 @@ use Rattle.command_words.specs.declared.words.CommandArgs.TheVariants.{Run, Chec
 use Rattle.command_words.specs.declared.words.WordsFault.{WordsFault}
 use Rattle.command_words.specs.declared.words.WordsFault.TheVariants.{NoMemory, Refused}
 
--- the names of the input files; the owners' file has one where the auction is live
+-- The names of the input files; a live auction has an owners' file.
 pub record InputNames : Type 0 where
   pub domains : List ℕ
   pub rows : List ℕ
   pub scenario : List ℕ
   pub owners : Option (List ℕ)
 
--- the names of the files of `run` or, with an owners' file, of `live`
+-- The names of the files of `run` or, with an owners' file, of `live`.
 pub record RunNames : Type 0 where
   pub inputs : InputNames
   pub result : List ℕ
   pub channels : List ℕ
   pub transcript : List ℕ
 
--- the names of the files of `verify` or, with an owners' file, of `verify-live`
+-- The names of the files of `verify` or, with an owners' file, of `verify-live`.
 pub record VerifyNames : Type 0 where
   pub inputs : InputNames
   pub transcript : List ℕ
 
--- the names of the files of `resume`: those of a run, and the beginning of a transcript that it goes on from
+-- The names of the files of `resume`: those of a run, and the beginning of a transcript from which the auction continues.
 pub record ResumeNames : Type 0 where
   pub run_files : RunNames
   pub prefix : List ℕ
 
--- the names of the files of `seek`
+-- The names of the files of `seek`.
 pub record SeekNames : Type 0 where
   pub domains : List ℕ
   pub rows : List ℕ
   pub scenario : List ℕ
   pub channels : List ℕ
 
--- the names of the files of `batch`: the constraint files, and the list of its scenarios and their results
+-- The names of the files of `batch`: the constraint files, and the list of its scenarios and their results.
 pub record BatchNames : Type 0 where
   pub domains : List ℕ
   pub rows : List ℕ
   pub list : List ℕ
 
--- the name of an input file; where no owners' file is named, the scenario has what stands for it; and a batch's list stands in
--- the place of a scenario until its scenarios are read
+-- The name of an input file. Without an owners' file, the scenario's name stands in for it. For a batch, the list's name is stored
+-- as that of the scenario until its scenarios are read.
 abbrev pub name_of : InputNames → Input → List ℕ
 name_of names Domains = names.domains
 name_of names Rows = names.rows
@@ -71,24 +71,24 @@ name_of names ScenarioFile = names.scenario
 name_of names OwnersFile = option_map_or (λ name. name) names.owners names.scenario
 name_of names ListFile = names.scenario
 
--- the files of one auction of the batch: its constraint files, and this scenario
+-- The input files of one auction of the batch: its constraint files, and this scenario.
 abbrev pub inputs_with : BatchNames → List ℕ → InputNames
 inputs_with names scenario = record { domains = names.domains; rows = names.rows; scenario = scenario; owners = None }
 
--- the seed and the size of `make`, and the names of the files that it stores
+-- The seed and the size of `make`, and the names of the files that it stores.
 pub record MakeNames : Type 0 where
   pub seed : ℕ
   pub size : ℕ
   pub outputs : InputNames
 
--- the names of the files of `export`: the auction's and the formula that it stores; and the step that is asked about
+-- The arguments of `export`: the names of the auction's files, the step, and the name of the formula file that it stores.
 pub record ExportNames : Type 0 where
   pub shown : VerifyNames
   pub step : ℕ
   pub formula : List ℕ
 
--- the names of the files of `import`: the auction's, the proof that it reads, and the result and the transcript that it
--- stores; and the step that is settled
+-- The arguments of `import`: the names of the auction's files, the step, the name of the proof file that it reads, and the names of
+-- the result and transcript that it stores.
 pub record ImportNames : Type 0 where
   pub shown : VerifyNames
   pub step : ℕ
@@ -96,7 +96,7 @@ pub record ImportNames : Type 0 where
   pub result : List ℕ
   pub transcript : List ℕ
 
--- a command with its arguments
+-- A command with its arguments.
 pub data Command : Type 0 where
   run : RunNames → Command
   check : InputNames → Command
@@ -108,126 +108,140 @@ pub data Command : Type 0 where
   export : ExportNames → Command
   import : ImportNames → Command
 
--- ---- what `clap` is asked to read
+-- ---- the commands that `clap` parses
 
--- an argument that has to be given, at its place
+-- A required positional argument.
 abbrev pub required_rule : Text → Rule
 required_rule id = record (new_rule id) { required = true }
 
--- the command with these arguments after its own
+-- The command with these required arguments after its own.
 abbrev pub with_required : App → List Text → App
 with_required app [] = app
 with_required app (id ∷ rest) = with_required (with_rule app (required_rule id)) rest
 
--- the arguments that name the constraint files
+-- The arguments that name the constraint files.
 abbrev pub constraint_ids : List Text
 constraint_ids = codes "DOMAINS" ∷ codes "ROWS" ∷ []
 
--- the arguments that name the input files
+-- The arguments that name the input files.
 abbrev pub input_ids : List Text
 input_ids = constraint_ids ++ codes "SCENARIO" ∷ []
 
+-- The command `check`.
 abbrev pub check_app : App
 check_app = with_required (new_app (codes "check")) input_ids
 
--- the arguments that name the output files
+-- The arguments that name the output files.
 abbrev pub output_ids : List Text
 output_ids = codes "RESULT" ∷ codes "CHANNELS" ∷ codes "TRANSCRIPT" ∷ []
 
+-- The command `run`.
 abbrev pub run_app : App
 run_app = with_required (new_app (codes "run")) (input_ids ++ output_ids)
 
--- the arguments that name the input files of a live auction
+-- The arguments that name the input files of a live auction.
 abbrev pub live_ids : List Text
 live_ids = input_ids ++ codes "OWNERS" ∷ []
 
+-- The command `live`.
 abbrev pub live_app : App
 live_app = with_required (new_app (codes "live")) (live_ids ++ output_ids)
 
--- the arguments that name the files of an auction that was carried out
+-- The arguments that name the files of an auction that was carried out.
 abbrev pub shown_ids : List Text
 shown_ids = input_ids ++ codes "TRANSCRIPT" ∷ []
 
+-- The command `verify`.
 abbrev pub verify_app : App
 verify_app = with_required (new_app (codes "verify")) shown_ids
 
+-- The command `verify-live`.
 abbrev pub verify_live_app : App
 verify_live_app = with_required (new_app (codes "verify-live")) (live_ids ++ codes "TRANSCRIPT" ∷ [])
 
+-- The command `resume`.
 abbrev pub resume_app : App
 resume_app = with_required (new_app (codes "resume")) (input_ids ++ codes "PREFIX" ∷ output_ids)
 
+-- The command `seek`.
 abbrev pub seek_app : App
 seek_app = with_required (new_app (codes "seek")) (input_ids ++ codes "CHANNELS" ∷ [])
 
+-- The command `batch`.
 abbrev pub batch_app : App
 batch_app = with_required (new_app (codes "batch")) (constraint_ids ++ codes "LIST" ∷ [])
 
--- the greatest seed, the most stations of a made auction, and the last step that can be asked about
+-- The greatest seed.
 abbrev pub seed_limit : ℕ
 seed_limit = 18446744073709551615
 
+-- The most stations of a generated auction.
 abbrev pub size_limit : ℕ
 size_limit = MOST_MADE
 
+-- The greatest number of a step.
 abbrev pub step_limit : ℕ
 step_limit = 4294967295
 
--- an argument that has to be given, and is a number from the least to the most
+-- A required argument that is a number from `least` to `most`.
 abbrev pub number_rule : Text → ℕ → ℕ → Rule
 number_rule id least most = record (required_rule id) { parser = Some (Unsigned least most) }
 
--- the arguments that say what is made
+-- The command `make` with its two numbers only.
 abbrev pub numbers_app : App
 numbers_app = with_rule (with_rule (new_app (codes "make")) (number_rule (codes "SEED") 0 seed_limit)) (number_rule (codes "SIZE") 1 size_limit)
 
+-- The command `make`.
 abbrev pub make_app : App
 make_app = with_required numbers_app input_ids
 
--- the command of this name, which takes the files of an auction and the number of one of its steps
+-- The command of this name that takes the files of an auction and the number of one of its steps.
 abbrev pub step_app : Text → App
 step_app name = with_rule (with_required (new_app name) shown_ids) (number_rule (codes "STEP") 1 step_limit)
 
+-- The command `export`.
 abbrev pub export_app : App
 export_app = with_required (step_app (codes "export")) (codes "CNF" ∷ [])
 
+-- The command `import`.
 abbrev pub import_app : App
 import_app = with_required (step_app (codes "import")) (codes "LRAT" ∷ codes "RESULT" ∷ codes "NEWTRANSCRIPT" ∷ [])
 
--- the program without its commands: it has a version, and a command is required
+-- The program without its commands: it has a version, and a command is required.
 abbrev pub bare_app : App
 bare_app = on_top (λ s. record s { has_version = true; subcommand_required = true }) (new_app (codes "repack"))
 
--- the program with the commands that read an auction's files and ask about no step
+-- The program with the commands that read an auction's files and take no step.
 abbrev pub reading_app : App
 reading_app = with_subcommand (with_subcommand (with_subcommand bare_app run_app.top) check_app.top) verify_app.top
 
--- and with those of a live auction
+-- The same with the commands of a live auction.
 abbrev pub live_reading_app : App
 live_reading_app = with_subcommand (with_subcommand reading_app live_app.top) verify_live_app.top
 
--- and with the one that goes on with an auction
+-- The same with the command that continues an auction.
 abbrev pub resuming_app : App
 resuming_app = with_subcommand live_reading_app resume_app.top
 
--- and with the one that seeks the least top channel
+-- The same with the command that finds the least top channel.
 abbrev pub seeking_app : App
 seeking_app = with_subcommand resuming_app seek_app.top
 
--- and with the one that runs many auctions
+-- The same with the command that runs many auctions.
 abbrev pub batching_app : App
 batching_app = with_subcommand seeking_app batch_app.top
 
+-- The program with all its commands.
 abbrev pub program_app : App
 program_app = with_subcommand (with_subcommand (with_subcommand batching_app make_app.top) export_app.top) import_app.top
 
--- ---- what was read
+-- ---- the command that was parsed
 
--- what is made of the first value of this argument, where it has one
+-- The result of `build` on the first value of this argument, if it has one.
 abbrev pub given_value : {X : Type 0} → List Row → Text → (Text → Option X) → Option X
 given_value rows id build = option_and_then build (first_of id rows)
 
--- the names of the input files, where each is there; none names an owners' file
+-- The names of the input files, if all are given; without an owners' file.
 abbrev pub input_names : List Row → Option InputNames
 input_names rows =
     given_value rows (codes "DOMAINS") (λ domains.
@@ -235,14 +249,14 @@ input_names rows =
     given_value rows (codes "SCENARIO") (λ scenario.
     Some (record { domains = domains; rows = pairs; scenario = scenario; owners = None }))))
 
--- the names of the input files of a live auction, where each is there
+-- The names of the input files of a live auction, if all are given.
 abbrev pub live_names : List Row → Option InputNames
 live_names rows =
     option_and_then (λ inputs.
     given_value rows (codes "OWNERS") (λ owners. Some (record inputs { owners = Some owners })))
     (input_names rows)
 
--- the names of these input files and of the files that a run stores, where each is there
+-- The names of these input files and of the files that a run stores, if all are given.
 abbrev pub run_names : List Row → InputNames → Option RunNames
 run_names rows inputs =
     given_value rows (codes "RESULT") (λ result.
@@ -250,22 +264,22 @@ run_names rows inputs =
     given_value rows (codes "TRANSCRIPT") (λ transcript.
     Some (record { inputs = inputs; result = result; channels = channels; transcript = transcript }))))
 
--- the names of these input files and of a transcript, where it is there
+-- The names of these input files and of a transcript, if it is given.
 abbrev pub shown_by_names : List Row → InputNames → Option VerifyNames
 shown_by_names rows inputs = given_value rows (codes "TRANSCRIPT") (λ transcript. Some (record { inputs = inputs; transcript = transcript }))
 
--- the names of the files of `verify`, where each is there
+-- The names of the files of `verify`, if all are given.
 abbrev pub verify_names : List Row → Option VerifyNames
 verify_names rows = option_and_then (shown_by_names rows) (input_names rows)
 
--- the names of the files of `resume`, where each is there
+-- The names of the files of `resume`, if all are given.
 abbrev pub resume_names : List Row → Option ResumeNames
 resume_names rows =
     option_and_then (λ run_files.
     given_value rows (codes "PREFIX") (λ prefix. Some (record { run_files = run_files; prefix = prefix })))
     (option_and_then (run_names rows) (input_names rows))
 
--- the names of the files of `seek`, where each is there
+-- The names of the files of `seek`, if all are given.
 abbrev pub seek_names : List Row → Option SeekNames
 seek_names rows =
     option_and_then (λ (inputs : InputNames).
@@ -273,7 +287,7 @@ seek_names rows =
     Some (record { domains = inputs.domains; rows = inputs.rows; scenario = inputs.scenario; channels = channels })))
     (input_names rows)
 
--- the names of the files of `batch`, where each is there
+-- The names of the files of `batch`, if all are given.
 abbrev pub batch_names : List Row → Option BatchNames
 batch_names rows =
     given_value rows (codes "DOMAINS") (λ domains.
@@ -281,12 +295,12 @@ batch_names rows =
     given_value rows (codes "LIST") (λ list.
     Some (record { domains = domains; rows = pairs; list = list }))))
 
--- The number that the text is, where it is one from the least to the most: decimal digits, behind a plus or behind none.
+-- The number that the text is, if it is from `least` to `most`: decimal digits, after an optional plus sign.
 abbrev pub number_within : ℕ → ℕ → Text → Option ℕ
 number_within least most text =
     if is_unsigned_in least most text then Some (digits_value 10 (without_leading_plus text)) else None
 
--- the seed and the size of `make` and the names of its files, where each is there and the numbers are in their bounds
+-- The seed and the size of `make` and the names of its files, if all are given and the numbers are within bounds.
 abbrev pub make_names : List Row → Option MakeNames
 make_names rows =
     option_and_then (λ seed.
@@ -296,11 +310,11 @@ make_names rows =
     (given_value rows (codes "SIZE") (number_within 1 size_limit)))
     (given_value rows (codes "SEED") (number_within 0 seed_limit))
 
--- the step of `export` and `import`, where it is there and in its bounds
+-- The step of `export` and `import`, if it is given and within bounds.
 abbrev pub step_named : List Row → Option ℕ
 step_named rows = given_value rows (codes "STEP") (number_within 1 step_limit)
 
--- the names of the files of `export` and its step, where each is there
+-- The names of the files of `export` and its step, if all are given.
 abbrev pub export_names : List Row → Option ExportNames
 export_names rows =
     option_and_then (λ shown.
@@ -309,7 +323,7 @@ export_names rows =
     (step_named rows))
     (verify_names rows)
 
--- the names of the files of `import` and its step, where each is there
+-- The names of the files of `import` and its step, if all are given.
 abbrev pub import_names : List Row → Option ImportNames
 import_names rows =
     option_and_then (λ shown.
@@ -321,7 +335,7 @@ import_names rows =
     (step_named rows))
     (verify_names rows)
 
--- the command of this name, where each of its arguments is there
+-- The command of this name, if all its arguments are given.
 abbrev pub named_command : Text × List Row → Option Command
 named_command found =
     if bytes_eq found.0 (codes "run") then option_map run (option_and_then (run_names found.1) (input_names found.1))
@@ -336,95 +350,97 @@ named_command found =
     else (if bytes_eq found.0 (codes "export") then option_map export (export_names found.1)
     else (if bytes_eq found.0 (codes "import") then option_map import (import_names found.1) else None))))))))))
 
--- The command that the words are, the first of which is the program's name; none where `clap` has a fault for them, or an
--- argument has no value.
+-- The command that the words are, the first of which is the program's name. `None` if `clap` reports a fault, or if an argument has
+-- no value.
 unfoldable pub command_of : List (List ℕ) → Option Command
 command_of words =
     if is_empty (fault_of program_app words) then option_and_then named_command (subcommand_of program_app words) else None
 
 -- ---- names given twice
 
--- the name of the owners' file, if there is one
+-- The name of the owners' file, if there is one.
 abbrev pub owners_given : Option (List ℕ) → List (List ℕ)
 owners_given None = []
 owners_given (Some owners) = owners ∷ []
 
--- the names of the files of `run` or `live`: those that are stored, and those that are read
+-- The names of the files of `run` or `live`: first those that are stored, then those that are read.
 abbrev pub run_names_given : RunNames → List (List ℕ)
 run_names_given names = names.result ∷ names.channels ∷ names.transcript
     ∷ names.inputs.domains ∷ names.inputs.rows ∷ names.inputs.scenario ∷ owners_given names.inputs.owners
 
--- those that are stored, in the order of the arguments
+-- The names of the files that are stored, in the order of the arguments.
 abbrev pub output_names : RunNames → List (List ℕ)
 output_names names = names.result ∷ names.channels ∷ names.transcript ∷ []
 
--- the name is given more than once
+-- Whether the name is given more than once.
 abbrev pub is_repeated_in : List ℕ → RunNames → Bool
 is_repeated_in name names = nat_lt 1 (count_by (bytes_eq name) (run_names_given names))
 
--- the first output name that is given more than once
+-- The first output name that is given more than once.
 unfoldable pub repeated_output : RunNames → Option (List ℕ)
 repeated_output names = find (λ name. is_repeated_in name names) (output_names names)
 
--- the names of the files that `make` stores, in the order of its arguments
+-- The names of the files that `make` stores, in the order of its arguments.
 abbrev pub made_names : MakeNames → List (List ℕ)
 made_names names = names.outputs.domains ∷ names.outputs.rows ∷ names.outputs.scenario ∷ []
 
--- the name is given more than once among these
+-- Whether the name is more than once among these.
 abbrev pub is_repeated_among : List (List ℕ) → List ℕ → Bool
 is_repeated_among given name = nat_lt 1 (count_by (bytes_eq name) given)
 
--- the first of them that is given more than once
+-- The first name of `make` that is given more than once.
 unfoldable pub repeated_made : MakeNames → Option (List ℕ)
 repeated_made names = find (is_repeated_among (made_names names)) (made_names names)
 
--- the names of the files of an auction that was carried out, in the order of the arguments
+-- The names of the files of an auction that was carried out, in the order of the arguments.
 abbrev pub shown_names : VerifyNames → List (List ℕ)
 shown_names names = names.inputs.domains ∷ names.inputs.rows ∷ names.inputs.scenario ∷ names.transcript ∷ []
 
--- the names of the files of `export`, in the order of its arguments
+-- The names of the files of `export`, in the order of its arguments.
 abbrev pub exported_names : ExportNames → List (List ℕ)
 exported_names names = shown_names names.shown ++ names.formula ∷ []
 
--- the name of the file that `export` stores, where it is given more than once
+-- The name of the file that `export` stores, if it is given more than once.
 unfoldable pub repeated_export : ExportNames → Option (List ℕ)
 repeated_export names = find (is_repeated_among (exported_names names)) (names.formula ∷ [])
 
--- the names of the files of `import`, in the order of its arguments
+-- The names of the files of `import`, in the order of its arguments.
 abbrev pub imported_names : ImportNames → List (List ℕ)
 imported_names names = shown_names names.shown ++ names.proof ∷ names.result ∷ names.transcript ∷ []
 
--- the first name of a file that `import` stores which is given more than once
+-- The first name of a file that `import` stores and that is given more than once.
 unfoldable pub repeated_import : ImportNames → Option (List ℕ)
 repeated_import names = find (is_repeated_among (imported_names names)) (names.result ∷ names.transcript ∷ [])
 
--- the names of the files of `resume`: those that are stored, and those that are read
+-- The names of the files of `resume`: first those that are stored, then those that are read.
 abbrev pub resumed_names : ResumeNames → List (List ℕ)
 resumed_names names = names.run_files.result ∷ names.run_files.channels ∷ names.run_files.transcript
     ∷ names.run_files.inputs.domains ∷ names.run_files.inputs.rows ∷ names.run_files.inputs.scenario ∷ names.prefix ∷ []
 
--- the first name of a file that `resume` stores which is given more than once
+-- The first name of a file that `resume` stores and that is given more than once.
 unfoldable pub repeated_resume : ResumeNames → Option (List ℕ)
 repeated_resume names = find (is_repeated_among (resumed_names names)) (output_names names.run_files)
 
--- the files that it reads: those of the inputs, and the beginning of a transcript of their auction
+-- The names of the files that `resume` reads, as those of an auction that was carried out; the beginning of a transcript takes the
+-- transcript's place.
 abbrev pub begun_names : ResumeNames → VerifyNames
 begun_names names = record { inputs = names.run_files.inputs; transcript = names.prefix }
 
--- the names of the files of `seek`, in the order of its arguments
+-- The names of the files of `seek`, in the order of its arguments.
 abbrev pub sought_names : SeekNames → List (List ℕ)
 sought_names names = names.domains ∷ names.rows ∷ names.scenario ∷ names.channels ∷ []
 
--- the name of the file that `seek` stores, where it is given more than once
+-- The name of the file that `seek` stores, if it is given more than once.
 unfoldable pub repeated_seek : SeekNames → Option (List ℕ)
 repeated_seek names = find (is_repeated_among (sought_names names)) (names.channels ∷ [])
 
--- the input files of `seek`, of which none tells what owners say
+-- The input files of `seek`; there is no owners' file among them.
 abbrev pub seek_inputs : SeekNames → InputNames
 seek_inputs names = record { domains = names.domains; rows = names.rows; scenario = names.scenario; owners = None }
 
--- ---- the code's values, as the definitions see them
+-- ---- the code's values, as these definitions see them
 
+-- The names of the input files in the code's value.
 abbrev pub inputs_seen : InputArgs → InputNames
 inputs_seen args = record {
   domains = args.domains.now;
@@ -433,6 +449,7 @@ inputs_seen args = record {
   owners = option_map (λ name. name.now) args.owners;
 }
 
+-- The names of the files of `run` or `live` in the code's value.
 abbrev pub names_seen : RunArgs → RunNames
 names_seen args = record {
   inputs = inputs_seen args.inputs;
@@ -441,18 +458,23 @@ names_seen args = record {
   transcript = args.transcript.now;
 }
 
+-- The names of the files of `verify` or `verify-live` in the code's value.
 abbrev pub verify_seen : VerifyArgs → VerifyNames
 verify_seen args = record { inputs = inputs_seen args.inputs; transcript = args.transcript.now }
 
+-- The names of the files of `resume` in the code's value.
 abbrev pub resume_seen : ResumeArgs → ResumeNames
 resume_seen args = record { run_files = names_seen args.run_files; prefix = args.prefix.now }
 
+-- The arguments of `make` in the code's value.
 abbrev pub make_seen : MakeArgs → MakeNames
 make_seen args = record { seed = args.seed; size = args.size; outputs = inputs_seen args.outputs }
 
+-- The arguments of `export` in the code's value.
 abbrev pub export_seen : ExportArgs → ExportNames
 export_seen args = record { shown = verify_seen args.shown; step = args.step; formula = args.formula.now }
 
+-- The arguments of `import` in the code's value.
 abbrev pub import_seen : ImportArgs → ImportNames
 import_seen args = record {
   shown = verify_seen args.shown;
@@ -462,6 +484,7 @@ import_seen args = record {
   transcript = args.transcript.now;
 }
 
+-- The names of the files of `seek` in the code's value.
 abbrev pub seek_seen : SeekArgs → SeekNames
 seek_seen args = record {
   domains = args.domains.now;
@@ -470,9 +493,11 @@ seek_seen args = record {
   channels = args.channels.now;
 }
 
+-- The names of the files of `batch` in the code's value.
 abbrev pub batch_seen : BatchArgs → BatchNames
 batch_seen args = record { domains = args.domains.now; rows = args.rows.now; list = args.list.now }
 
+-- The command in the code's value.
 abbrev pub command_seen : CommandArgs → Command
 command_seen (Run args) = run (names_seen args)
 command_seen (Check args) = check (inputs_seen args)
@@ -484,7 +509,7 @@ command_seen (Make args) = make (make_seen args)
 command_seen (Export args) = export (export_seen args)
 command_seen (Import args) = import (import_seen args)
 
--- the words have a fault
+-- Whether the fault is that the words are rejected, not that memory ran out.
 abbrev pub IsRefused : WordsFault → Type 0
 IsRefused (Refused text) = ⊤
 IsRefused NoMemory = ⊥

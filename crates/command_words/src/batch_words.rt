@@ -1,4 +1,4 @@
-//! The words of `batch`: the constraint files, and the list of the scenarios and of the files for their results.
+//! The arguments of `batch`: the constraint files, and the list of the scenarios and of the files for their results.
 
 ghost use Rattle.std.specs.Prelude.{◌≡◌, IfOk, false, option_map};
 ghost use Rattle.clap.specs.Words.{app_of, found_of, rows_of};
@@ -11,7 +11,7 @@ use crate::run_words::{InputArgs, value_of};
 use clap::{ArgMatches, Command};
 use std::alloc::{AllocError, Global};
 
-/// The arguments of `batch`, as they are given.
+/// The arguments of `batch`, as given on the command line.
 #[derive(Clone, Copy, Debug, PartialEq, Eq)]
 pub struct BatchArgs<'a> {
     /// The domains file.
@@ -23,8 +23,8 @@ pub struct BatchArgs<'a> {
 }
 
 impl<'a> BatchArgs<'a> {
-    /// The input files of one auction: the constraint files, and the scenario of this name. Until the scenarios are read the list
-    /// stands in a scenario's place.
+    /// Returns the input files of one auction: the constraint files, and the scenario of this name. Before the scenarios are read,
+    /// callers pass the list's name.
     pub fn inputs_with(&self, scenario: &'a str) -> InputArgs<'a>
         ensures { inputs_seen result ≡ inputs_with (batch_seen self.now) scenario.now }
     {

@@ -1,4 +1,4 @@
-//! The arguments that name files, and how a command is given them.
+//! Arguments that name files, and commands that take them. The other modules build their commands from these.
 
 ghost use Rattle.std.specs.Prelude.{◌≡◌, IfOk, false, map};
 ghost use Rattle.clap.specs.Words.{app_of, new_app, rule_of};
@@ -8,7 +8,7 @@ ghost use Rattle.command_words.specs.Words.{required_rule, with_required};
 use clap::{Arg, Command};
 use std::alloc::{AllocError, Global};
 
-/// An argument that names a file: what it is called, and its line of help.
+/// An argument that names a file: its identifier, and its line of help.
 #[derive(Clone, Copy)]
 pub(crate) struct FileArg<'a> {
     pub(crate) id: &'a str,
@@ -58,7 +58,7 @@ pub(crate) const SHOWN: FileArg<'static> = FileArg {
     help: "The transcript of an auction of these inputs",
 };
 
-// An argument that has to be given, with its line of help.
+// Returns a required argument with its line of help.
 pub(crate) fn required<'a>(alloc: Global, name: &'a str, help: &'a str) -> Arg<'a>
     ensures rule { rule_of result ≡ required_rule name.entry.now }
     ensures local { result.global ≡ false }
@@ -66,7 +66,7 @@ pub(crate) fn required<'a>(alloc: Global, name: &'a str, help: &'a str) -> Arg<'
     Arg::new(alloc, name).required(true).help(help)
 }
 
-// The command with these arguments after its own, each of which has to be given.
+// Returns the command with these required arguments after its own.
 pub(crate) fn with_files<'a>(
     alloc: Global,
     command: Command<'a>,
@@ -83,7 +83,7 @@ pub(crate) fn with_files<'a>(
     Ok(command)
 }
 
-// A command of this name that takes these files.
+// Returns a command of this name that takes these files.
 pub(crate) fn file_command<'a>(
     alloc: Global,
     name: &'a str,

@@ -1,7 +1,12 @@
-//! The words of the command line, as `clap` reads them: which command they are, and the names and numbers of its arguments.
+//! The command line, as `clap` parses it: which command it is, and the names and numbers of its arguments.
 //!
-//! `auction_cmd` calls it, and has `commands` carry the commands out. Read `words` and `run_words` first; `file_args`
-//! has the arguments that name files, and each other module the words of one command, or of two that are alike.
+//! `auction_cmd` calls this crate, and has `commands` carry the commands out. The modules in reading order:
+//!
+//! - `words`: the program with all its commands, and the parser.
+//! - `run_words`: the arguments of `run`, `live`, `check`, `verify` and `verify-live`, which other commands share.
+//! - `file_args`: arguments that name files.
+//! - `make_words`, `batch_words`, `seek_words`, `resume_words`: the arguments of one command each.
+//! - `proof_words`: the arguments of `export` and `import`.
 #![tactic(auto)]
 
 pub mod batch_words;

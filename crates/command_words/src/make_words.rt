@@ -1,4 +1,4 @@
-//! The words of `make`: a seed, a size and the names of the files to store.
+//! The arguments of `make`: a seed, a size, and the names of the files to store.
 
 ghost use Rattle.std.specs.Prelude.{◌≡◌, IfOk, false, option_map};
 ghost use Rattle.clap.specs.Words.{app_of, found_of, rows_of, rule_of};
@@ -12,19 +12,19 @@ use clap::{Arg, ArgMatches, Command};
 use scenario_make::limits::MOST_MADE;
 use std::alloc::{AllocError, Global};
 
-/// The arguments of `make`, as they are given.
+/// The arguments of `make`, as given on the command line.
 #[derive(Clone, Copy, Debug, PartialEq, Eq)]
 pub struct MakeArgs<'a> {
-    /// The number that the auction is made from.
+    /// The seed from which the auction is generated.
     pub seed: u64,
-    /// How many stations it has, 1 to 4,096.
+    /// The number of its stations, 1 to 4,096.
     pub size: u32,
     /// The files to store: the domains, the rows and the scenario.
     pub outputs: InputArgs<'a>,
 }
 
 impl<'a> MakeArgs<'a> {
-    /// The first name, in the order of the arguments, that is given more than once. Names are compared byte by byte, so `a`
+    /// Returns the first name, in the order of the arguments, that is given more than once. Names are compared byte by byte, so `a`
     /// and `./a` differ.
     #[tactic(auto, unfolding(crate::specs::Words::repeated_made))]
     pub fn given_twice(&self) -> Option<&'a str>
@@ -52,7 +52,7 @@ impl<'a> MakeArgs<'a> {
     }
 }
 
-// An argument that has to be given, and is a number from the least to the most, with its line of help.
+// Returns a required argument that is a number from `least` to `most`, with its line of help.
 pub(crate) fn number<'a>(
     alloc: Global,
     name: &'a str,
@@ -66,7 +66,7 @@ pub(crate) fn number<'a>(
     required(alloc, name, help).value_parser(ValueParser::unsigned(least, most))
 }
 
-// A command that takes the two numbers.
+// Returns the command with its two numbers.
 fn numbers_command<'a>(alloc: Global) -> Result<Command<'a>, AllocError>
     ensures app { IfOk result (λ c. app_of c ≡ numbers_app) }
     ensures local { IfOk result (λ c. (out-Command c).has_globals ≡ false) }
@@ -108,7 +108,7 @@ pub(crate) fn make_command<'a>(alloc: Global) -> Result<Command<'a>, AllocError>
     with_files(alloc, numbers_command(alloc)?, &[domains, rows, scenario])
 }
 
-// The seed that this text is.
+// Parses a seed.
 fn seed_in(text: &str) -> Option<u64>
     ensures { result ≡ number_within 0 seed_limit text.now }
 {
@@ -118,7 +118,7 @@ fn seed_in(text: &str) -> Option<u64>
     }
 }
 
-// The number that this text is, from 1 to the most.
+// Parses a number from 1 to `most`.
 pub(crate) fn count_in(text: &str, most: u32) -> Option<u32>
     ensures { result ≡ number_within 1 most text.now }
 {

@@ -1,4 +1,4 @@
-//! The words of `export` and `import`: the files of an auction, one of its steps, and the files of a proof from outside.
+//! The arguments of `export` and `import`: the files of an auction, one of its steps, and the files of a proof from outside.
 
 ghost use Rattle.std.specs.Prelude.{◌≡◌, IfOk, false, option_map};
 ghost use Rattle.clap.specs.Words.{app_of, found_of, rows_of};
@@ -11,7 +11,7 @@ use crate::run_words::{VerifyArgs, times_in, value_of, verify_args};
 use clap::{ArgMatches, Command};
 use std::alloc::{AllocError, Global};
 
-/// The arguments of `export`, as they are given.
+/// The arguments of `export`, as given on the command line.
 #[derive(Clone, Copy, Debug, PartialEq, Eq)]
 pub struct ExportArgs<'a> {
     /// The files of the auction.
@@ -22,7 +22,7 @@ pub struct ExportArgs<'a> {
     pub formula: &'a str,
 }
 
-/// The arguments of `import`, as they are given.
+/// The arguments of `import`, as given on the command line.
 #[derive(Clone, Copy, Debug, PartialEq, Eq)]
 pub struct ImportArgs<'a> {
     /// The files of the auction.
@@ -38,7 +38,7 @@ pub struct ImportArgs<'a> {
 }
 
 impl<'a> ExportArgs<'a> {
-    /// The name of the file to store, if it equals another name given. Names are compared byte by byte, so `a` and `./a`
+    /// Returns the name of the file to store, if it equals another given name. Names are compared byte by byte, so `a` and `./a`
     /// differ. Two names of files to read may be equal.
     #[tactic(auto, unfolding(crate::specs::Words::repeated_export))]
     pub fn given_twice(&self) -> Option<&'a str>
@@ -69,7 +69,7 @@ impl<'a> ExportArgs<'a> {
 }
 
 impl<'a> ImportArgs<'a> {
-    /// The first name of a file to store, in the order of the arguments, that equals another name given. Names are compared
+    /// Returns the first name of a file to store, in the order of the arguments, that equals another given name. Names are compared
     /// byte by byte, so `a` and `./a` differ. Two names of files to read may be equal.
     #[tactic(auto, unfolding(crate::specs::Words::repeated_import))]
     pub fn given_twice(&self) -> Option<&'a str>
@@ -103,7 +103,7 @@ impl<'a> ImportArgs<'a> {
     }
 }
 
-// A command of this name that takes the files of an auction and the number of one of its steps.
+// Returns a command of this name that takes the files of an auction and the number of one of its steps.
 fn step_command<'a>(alloc: Global, name: &'a str, about: &'a str) -> Result<Command<'a>, AllocError>
     ensures app { IfOk result (λ c. app_of c ≡ step_app name.entry.now) }
     ensures local { IfOk result (λ c. (out-Command c).has_globals ≡ false) }
@@ -151,7 +151,7 @@ pub(crate) fn import_command<'a>(alloc: Global) -> Result<Command<'a>, AllocErro
     with_files(alloc, step_command(alloc, "import", about)?, &files)
 }
 
-// The number of the step.
+// Returns the number of the step.
 fn step_of<'a>(matches: &ArgMatches<'a>) -> Option<u32>
     ensures { result ≡ step_named (rows_of (found_of matches.now)) }
 {

@@ -1,4 +1,4 @@
-//! The words of `resume`: the files of a run, and the beginning of a transcript that it goes on from.
+//! The arguments of `resume`: the files of a run, and the beginning of a transcript from which the auction continues.
 
 ghost use Rattle.std.specs.Prelude.{◌≡◌, IfOk, false, option_map};
 ghost use Rattle.clap.specs.Words.{app_of, found_of, rows_of};
@@ -12,17 +12,17 @@ use crate::run_words::{RunArgs, plain_run_args, times_in, value_of};
 use clap::{ArgMatches, Command};
 use std::alloc::{AllocError, Global};
 
-/// The arguments of `resume`, as they are given.
+/// The arguments of `resume`, as given on the command line.
 #[derive(Clone, Copy, Debug, PartialEq, Eq)]
 pub struct ResumeArgs<'a> {
-    /// The input files, and those for the three texts.
+    /// The input files, and the files for the three outputs.
     pub run_files: RunArgs<'a>,
-    /// The file of the beginning of a transcript.
+    /// The file with the beginning of a transcript.
     pub prefix: &'a str,
 }
 
 impl<'a> ResumeArgs<'a> {
-    /// The first name of a file to store, in the order of the arguments, that equals another name given. Names are compared
+    /// Returns the first name of a file to store, in the order of the arguments, that equals another given name. Names are compared
     /// byte by byte, so `a` and `./a` differ. Two names of files to read may be equal.
     #[tactic(auto, unfolding(crate::specs::Words::repeated_resume))]
     pub fn given_twice(&self) -> Option<&'a str>

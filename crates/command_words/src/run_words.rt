@@ -1,5 +1,5 @@
-//! The words of `run`, `live`, `check`, `verify` and `verify-live`: the names of an auction's files, and the arguments that more
-//! commands take.
+//! The arguments of `run`, `live`, `check`, `verify` and `verify-live`: the names of an auction's files. Other commands share these
+//! arguments.
 
 ghost use Rattle.std.specs.Prelude.{◌≡◌, IfOk, count_by, false, map, option_and_then, option_map};
 ghost use Rattle.std.specs.Str.{bytes_eq};
@@ -25,7 +25,7 @@ pub enum Input {
     List,
 }
 
-/// The names of the input files, as they are given.
+/// The names of the input files, as given on the command line.
 #[derive(Clone, Copy, Debug, PartialEq, Eq)]
 pub struct InputArgs<'a> {
     /// The domains file.
@@ -34,11 +34,11 @@ pub struct InputArgs<'a> {
     pub rows: &'a str,
     /// The scenario file.
     pub scenario: &'a str,
-    /// The owners' file, where the auction is live.
+    /// The owners' file, if the auction is live.
     pub owners: Option<&'a str>,
 }
 
-/// The names of the files of `run` or `live`, as they are given.
+/// The names of the files of `run` or `live`, as given on the command line.
 #[derive(Clone, Copy, Debug, PartialEq, Eq)]
 pub struct RunArgs<'a> {
     /// The input files.
@@ -51,7 +51,7 @@ pub struct RunArgs<'a> {
     pub transcript: &'a str,
 }
 
-/// The names of the files of an auction that was carried out, as they are given.
+/// The names of the files of an auction that was carried out, as given on the command line.
 #[derive(Clone, Copy, Debug, PartialEq, Eq)]
 pub struct VerifyArgs<'a> {
     /// The input files of the auction.
@@ -61,8 +61,8 @@ pub struct VerifyArgs<'a> {
 }
 
 impl<'a> InputArgs<'a> {
-    /// The name of an input file. Where no owners' file is named it is the scenario's, which has what stands for it; and a batch's
-    /// list stands in the place of a scenario.
+    /// Returns the name of an input file. Without an owners' file, the scenario's name stands in for it, since the scenario has the
+    /// values. For a batch, the list's name is stored as that of the scenario.
     pub fn of(&self, input: Input) -> &'a str
         ensures { result.now ≡ name_of (inputs_seen self.now) input }
     {
@@ -77,7 +77,7 @@ impl<'a> InputArgs<'a> {
 }
 
 impl<'a> RunArgs<'a> {
-    /// The first output name, in the order of the arguments, that equals another name given. Names are compared byte by
+    /// Returns the first output name, in the order of the arguments, that equals another given name. Names are compared byte by
     /// byte, so `a` and `./a` differ. Two input names may be equal.
     #[tactic(auto, unfolding(crate::specs::Words::repeated_output))]
     pub fn given_twice(&self) -> Option<&'a str>
@@ -121,7 +121,7 @@ impl<'a> RunArgs<'a> {
     }
 }
 
-// How often the name stands among these.
+// Returns how many of these names equal this one.
 pub(crate) fn times_in(names: &[&str], name: &str) -> usize
     ensures { result ≡ count_by (bytes_eq name.now) (map (λ n. n.now) names.now) }
 {
@@ -181,7 +181,7 @@ pub(crate) fn verify_live_command<'a>(alloc: Global) -> Result<Command<'a>, Allo
     )
 }
 
-// The first value of an argument.
+// Returns the first value of an argument.
 pub(crate) fn value_of<'a>(matches: &ArgMatches<'a>, id: &str) -> Option<&'a str>
     ensures { option_map (λ s. s.now) result ≡ first_of id.now (rows_of (found_of matches.now)) }
 {
@@ -227,14 +227,14 @@ pub(crate) fn run_args<'a>(matches: &ArgMatches<'a>, inputs: InputArgs<'a>) -> O
     })
 }
 
-// The arguments of `run`.
+// Returns the arguments of `run`.
 pub(crate) fn plain_run_args<'a>(matches: &ArgMatches<'a>) -> Option<RunArgs<'a>>
     ensures { option_map names_seen result ≡ option_and_then (run_names (rows_of (found_of matches.now))) (input_names (rows_of (found_of matches.now))) }
 {
     run_args(matches, input_args(matches)?)
 }
 
-// The arguments of `live`.
+// Returns the arguments of `live`.
 pub(crate) fn live_run_args<'a>(matches: &ArgMatches<'a>) -> Option<RunArgs<'a>>
     ensures { option_map names_seen result ≡ option_and_then (run_names (rows_of (found_of matches.now))) (live_names (rows_of (found_of matches.now))) }
 {
@@ -254,7 +254,7 @@ pub(crate) fn verify_args<'a>(matches: &ArgMatches<'a>) -> Option<VerifyArgs<'a>
     shown_args(matches, input_args(matches)?)
 }
 
-// The arguments of `verify-live`.
+// Returns the arguments of `verify-live`.
 pub(crate) fn verify_live_args<'a>(matches: &ArgMatches<'a>) -> Option<VerifyArgs<'a>>
     ensures { option_map verify_seen result ≡ option_and_then (shown_by_names (rows_of (found_of matches.now))) (live_names (rows_of (found_of matches.now))) }
 {

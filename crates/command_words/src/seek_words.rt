@@ -1,4 +1,4 @@
-//! The words of `seek`: the input files, and the file for the channels of the least top.
+//! The arguments of `seek`: the input files, and the file for the channels at the least top channel.
 
 ghost use Rattle.std.specs.Prelude.{◌≡◌, IfOk, false, option_map};
 ghost use Rattle.clap.specs.Words.{app_of, found_of, rows_of};
@@ -10,10 +10,10 @@ use crate::run_words::{InputArgs, input_args, times_in, value_of};
 use clap::{ArgMatches, Command};
 use std::alloc::{AllocError, Global};
 
-/// The arguments of `seek`, as they are given.
+/// The arguments of `seek`, as given on the command line.
 #[derive(Clone, Copy, Debug, PartialEq, Eq)]
 pub struct SeekArgs<'a> {
-    /// The domain file.
+    /// The domains file.
     pub domains: &'a str,
     /// The rows file.
     pub rows: &'a str,
@@ -24,7 +24,7 @@ pub struct SeekArgs<'a> {
 }
 
 impl<'a> SeekArgs<'a> {
-    /// The name of the file to store, if it equals another name given. Names are compared byte by byte, so `a` and `./a`
+    /// Returns the name of the file to store, if it equals another given name. Names are compared byte by byte, so `a` and `./a`
     /// differ. Two names of files to read may be equal.
     #[tactic(auto, unfolding(crate::specs::Words::repeated_seek))]
     pub fn given_twice(&self) -> Option<&'a str>
@@ -45,7 +45,7 @@ impl<'a> SeekArgs<'a> {
         times_in(&given, name) > 1
     }
 
-    /// The input files. None of them tells what owners say.
+    /// Returns the input files. There is no owners' file among them.
     pub fn inputs(&self) -> InputArgs<'a>
         ensures { inputs_seen result ≡ seek_inputs (seek_seen self.now) }
     {

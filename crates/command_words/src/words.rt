@@ -1,4 +1,4 @@
-//! The words of the command line, as `clap` reads them: which command they are.
+//! Parses the command line with `clap`: which command it is, with its arguments. `auction_cmd` calls `read_words`.
 
 ghost use Rattle.std.specs.Prelude.{◌≡◌, ◌≢◌, IfErr, IfOk, IsOkAnd, None, Some, codes, false, if◌then◌else◌, map, option_and_then, option_map, string_bytes};
 ghost use Rattle.std.specs.Str.{bytes_eq};
@@ -32,13 +32,13 @@ pub enum CommandArgs<'a> {
     Check(InputArgs<'a>),
     /// Verify a transcript, of an auction by the stations' values or of a live one.
     Verify(VerifyArgs<'a>),
-    /// Go on with an auction from the beginning of its transcript.
+    /// Continue an auction from the beginning of its transcript.
     Resume(ResumeArgs<'a>),
-    /// Seek the least top channel.
+    /// Find the least top channel.
     Seek(SeekArgs<'a>),
     /// Run the auctions of many scenarios.
     Batch(BatchArgs<'a>),
-    /// Make an auction and run it.
+    /// Generate an auction and run it.
     Make(MakeArgs<'a>),
     /// Store the formula of a step's test.
     Export(ExportArgs<'a>),
@@ -46,15 +46,15 @@ pub enum CommandArgs<'a> {
     Import(ImportArgs<'a>),
 }
 
-/// Why words are not read as a command. `Refused`: they are none. It has the text that `clap` gives for the user, which is
-/// the help or the version where they ask for one; no clause speaks of the text. `NoMemory`: memory ran out.
+/// Why a command line is not a command. `Refused`: it is none; the text is the message of `clap` for the user, or the help or
+/// version text that the user asked for. No contract describes the text. `NoMemory`: memory ran out.
 #[derive(Debug, Drop)]
 pub enum WordsFault {
     Refused(String),
     NoMemory,
 }
 
-// The program without its commands. Its name in the texts is its own, however it was called.
+// Returns the program without its commands. Its name in messages does not depend on how it was called.
 fn bare_program<'a>(alloc: Global) -> Result<Command<'a>, AllocError>
     ensures app { IfOk result (λ c. app_of c ≡ bare_app) }
     ensures local { IfOk result (λ c. (out-Command c).has_globals ≡ false) }
@@ -67,8 +67,8 @@ fn bare_program<'a>(alloc: Global) -> Result<Command<'a>, AllocError>
     command.bin_name("repack")
 }
 
-// The program with this command after its own, where there was memory for the command too. Its callers hold no program while
-// they may return early.
+// Returns the program with one more command, if there was memory for that command. The command comes as a `Result`, so that callers
+// hold no program when they return early.
 fn with_command<'a>(
     program: Command<'a>,
     command: Result<Command<'a>, AllocError>,
@@ -81,7 +81,7 @@ fn with_command<'a>(
     program.subcommand(command?)
 }
 
-// The program with the commands that read an auction's files and ask about no step.
+// Returns the program with the commands that read an auction's files and take no step.
 fn reading_program<'a>(alloc: Global) -> Result<Command<'a>, AllocError>
     ensures app { IfOk result (λ c. app_of c ≡ reading_app) }
     ensures local { IfOk result (λ c. (out-Command c).has_globals ≡ false) }
@@ -91,7 +91,7 @@ fn reading_program<'a>(alloc: Global) -> Result<Command<'a>, AllocError>
     with_command(checking, verify_command(alloc))
 }
 
-// The same with those of a live auction.
+// Returns the same with the commands of a live auction.
 fn live_reading_program<'a>(alloc: Global) -> Result<Command<'a>, AllocError>
     ensures app { IfOk result (λ c. app_of c ≡ live_reading_app) }
     ensures local { IfOk result (λ c. (out-Command c).has_globals ≡ false) }
@@ -100,7 +100,7 @@ fn live_reading_program<'a>(alloc: Global) -> Result<Command<'a>, AllocError>
     with_command(live, verify_live_command(alloc))
 }
 
-// The same with the one that goes on with an auction.
+// Returns the same with the command that continues an auction.
 fn resuming_program<'a>(alloc: Global) -> Result<Command<'a>, AllocError>
     ensures app { IfOk result (λ c. app_of c ≡ resuming_app) }
     ensures local { IfOk result (λ c. (out-Command c).has_globals ≡ false) }
@@ -109,7 +109,7 @@ fn resuming_program<'a>(alloc: Global) -> Result<Command<'a>, AllocError>
     with_command(program, resume_command(alloc))
 }
 
-// The same with the one that seeks the least top channel.
+// Returns the same with the command that finds the least top channel.
 fn seeking_program<'a>(alloc: Global) -> Result<Command<'a>, AllocError>
     ensures app { IfOk result (λ c. app_of c ≡ seeking_app) }
     ensures local { IfOk result (λ c. (out-Command c).has_globals ≡ false) }
@@ -118,7 +118,7 @@ fn seeking_program<'a>(alloc: Global) -> Result<Command<'a>, AllocError>
     with_command(program, seek_command(alloc))
 }
 
-// The same with the one that runs many auctions.
+// Returns the same with the command that runs many auctions.
 fn batching_program<'a>(alloc: Global) -> Result<Command<'a>, AllocError>
     ensures app { IfOk result (λ c. app_of c ≡ batching_app) }
     ensures local { IfOk result (λ c. (out-Command c).has_globals ≡ false) }
@@ -127,6 +127,7 @@ fn batching_program<'a>(alloc: Global) -> Result<Command<'a>, AllocError>
     with_command(program, batch_command(alloc))
 }
 
+// Returns the program with all its commands.
 fn program<'a>(alloc: Global) -> Result<Command<'a>, AllocError>
     ensures { IfOk result (λ c. app_of c ≡ program_app) }
 {
@@ -135,7 +136,7 @@ fn program<'a>(alloc: Global) -> Result<Command<'a>, AllocError>
     with_command(exporting, import_command(alloc))
 }
 
-// The command that `clap` found, with its arguments.
+// Returns the command that `clap` found, with its arguments.
 fn command_args<'a>(matches: &ArgMatches<'a>) -> Option<CommandArgs<'a>>
     ensures { option_map command_seen result ≡ option_and_then named_command (subcommand_rows_of matches.now) }
 {
@@ -143,7 +144,7 @@ fn command_args<'a>(matches: &ArgMatches<'a>) -> Option<CommandArgs<'a>>
     named_args(name, inner)
 }
 
-// The command of this name, with its arguments.
+// Returns the command of this name, with its arguments.
 fn named_args<'a>(name: &str, inner: &ArgMatches<'a>) -> Option<CommandArgs<'a>>
     ensures { option_map command_seen result ≡ named_command (name.now, rows_of (found_of inner.now)) }
 {
@@ -162,7 +163,7 @@ fn named_args<'a>(name: &str, inner: &ArgMatches<'a>) -> Option<CommandArgs<'a>>
     }
 }
 
-// The command of this name, with its arguments, where it is none of those that `named_args` reads itself.
+// Returns the command of this name, with its arguments, for the names that `named_args` leaves.
 fn other_args<'a>(name: &str, inner: &ArgMatches<'a>) -> Option<CommandArgs<'a>>
     ensures { let rows = rows_of (found_of inner.now) in
         option_map command_seen result ≡ (if bytes_eq name.now (codes "resume") then option_map resume (resume_names rows)
@@ -183,7 +184,7 @@ fn other_args<'a>(name: &str, inner: &ArgMatches<'a>) -> Option<CommandArgs<'a>>
     }
 }
 
-// The command of this name, with its arguments, where it is `make` or takes a step of a transcript.
+// Returns the command of this name, with its arguments: `make`, or a command that takes a step of a transcript.
 fn last_args<'a>(name: &str, inner: &ArgMatches<'a>) -> Option<CommandArgs<'a>>
     ensures { let rows = rows_of (found_of inner.now) in
         option_map command_seen result ≡ (if bytes_eq name.now (codes "make") then option_map make (make_names rows)
@@ -201,7 +202,7 @@ fn last_args<'a>(name: &str, inner: &ArgMatches<'a>) -> Option<CommandArgs<'a>>
     }
 }
 
-// The fault that has this text, if there was memory for it.
+// Returns the fault with this text, if there was memory for the text.
 fn refused(text: Result<String, AllocError>) -> WordsFault {
     match text {
         Ok(text) => WordsFault::Refused(text),
@@ -209,7 +210,7 @@ fn refused(text: Result<String, AllocError>) -> WordsFault {
     }
 }
 
-// The fault that `clap` has for the words, unless memory ran out.
+// Returns the fault that `clap` reports, unless memory ran out.
 fn fault_from(alloc: Global, error: &Error) -> WordsFault
     ensures { IsRefused result → kind_of error.now ≢ ErrorKind.OutOfMemory }
 {
@@ -219,7 +220,7 @@ fn fault_from(alloc: Global, error: &Error) -> WordsFault
     refused(error.to_string(alloc))
 }
 
-/// The command that the words are, of which the first is the program's name:
+/// Returns the command of a command line. The first word is the program's name; then follows one of:
 ///
 /// - `run DOMAINS ROWS SCENARIO RESULT CHANNELS TRANSCRIPT`
 /// - `check DOMAINS ROWS SCENARIO`
@@ -233,9 +234,13 @@ fn fault_from(alloc: Global, error: &Error) -> WordsFault
 /// - `export DOMAINS ROWS SCENARIO TRANSCRIPT STEP CNF`
 /// - `import DOMAINS ROWS SCENARIO TRANSCRIPT STEP LRAT RESULT NEWTRANSCRIPT`
 ///
-/// A name that begins with `-` stands after `--`, but for a lone `-`. SEED is a number up to 2^64 - 1, SIZE one from 1 to 4,096,
-/// STEP one from 1 to 4,294,967,295; a plus may stand before each, and zeros. Help and the version are no command: their texts
-/// come with `Refused`.
+/// A name that begins with `-` must come after `--`, except a lone `-`. SEED is a number up to 2^64 - 1, SIZE is 1 to 4,096, and
+/// STEP is 1 to 4,294,967,295. Each number may have a plus sign and leading zeros.
+///
+/// # Errors
+///
+/// Fails with `Refused` and the text for the user if the words are no command; this includes requests for the help or the version.
+/// Fails with `NoMemory` if memory runs out.
 #[tactic(auto, unfolding(crate::specs::Words::command_of))]
 pub fn read_words<'a>(alloc: Global, words: &'a [String]) -> Result<CommandArgs<'a>, WordsFault>
     ensures command { IfOk result (λ c. command_of (map string_bytes words.entry.now) ≡ Some (command_seen c)) }
@@ -250,7 +255,7 @@ pub fn read_words<'a>(alloc: Global, words: &'a [String]) -> Result<CommandArgs<
     };
     match command_args(&matches) {
         Some(command) => Ok(command),
-        // `clap` has a fault for words that lack an argument, so this never comes.
+        // `clap` reports a missing argument itself, so this case does not occur.
         None => Err(refused(String::from_str(alloc, "error: an argument is missing\n"))),
     }
 }

@@ -1,4 +1,4 @@
--- How a batch ends, from what its steps did.
+-- How a batch ends, from the results of its steps.
 use Rattle.std.proofs.Common.{◌≡◌, ◌∙◌, ◌+◌, ◌<◌, ◌≤◌, ℕ, suc, Bool, List, [], ◌∷◌, ◌++◌, drop, get_or, length, map, option_map, refl, sym, ap, subst, append_assoc, append-nil, arith, Some, None, inr}
 use Rattle.std.specs.Prelude.{Err, IfOk, Ok, Result}
 use Rattle.std.specs.List.{AllZip}
@@ -22,7 +22,7 @@ use Rattle.commands.specs.Records.{IsRecordBy}
 use Rattle.command_words.specs.Words.{BatchNames, InputNames}
 use Rattle.commands.proofs.DeliveryLemmas.{IsSince}
 
--- ---- the reading as a whole
+-- ---- the complete reading
 
 module _ (files : List StoredFile) (names : BatchNames) where
   abbrev at : InputNames
@@ -36,7 +36,7 @@ module _ (files : List StoredFile) (names : BatchNames) where
   unfolding batch_of
   twice-listed listed name e twice = rw (e, twice) refl
 
-  -- what comes after the list
+  -- The reading after the list.
   after-listed : (listed : ListedView) → listing_of files (inputs_with names names.list) ≡ Ok listed → repeated_result (names_in_words names) listed.lines ≡ None →
       batch_of files names ≡ unless_stopped (each_inputs files names listed.constraints listed.lines) (λ inputs. Ok (record { lines = listed.lines; inputs = inputs }))
   unfolding batch_of
@@ -52,7 +52,7 @@ module _ (files : List StoredFile) (names : BatchNames) where
       StopsAsHeld steady (batch_of files names) (Twice name)
   stops-twice steady listed name e twice = twice-listed listed name e (sym twice)
 
-  -- a stop of the scenarios' reading is one of the whole
+  -- What stops the reading of the scenarios stops the complete reading.
   pub stops-each : (steady : Bool) (listed : ListedView) (stop : BatchStop) → listing_of files (inputs_with names names.list) ≡ Ok listed → None ≡ repeated_result (names_in_words names) listed.lines →
       StopsAsHeld steady (each_inputs files names listed.constraints listed.lines) stop → StopsAsHeld steady (batch_of files names) stop
   stops-each steady listed stop e once h = by stop h
@@ -71,7 +71,7 @@ module _ (files : List StoredFile) (names : BatchNames) where
   held-batch listed inputs e once each =
       after-listed listed e (sym once) ∙ ap (λ r. unless_stopped r (λ is. Ok (record { lines = listed.lines; inputs = is }))) each
 
--- the count of faults is as where inputs were read
+-- The fault count is that of reading inputs.
 pub listing-counts : (before now : ℕ) (stop : Stop) → CountsFault {A = Listed} before now (Err stop) → CountsFault {A = Inputs} before now (Err stop)
 listing-counts before now stop h = record { kept = h.kept; rises = by stop h.rises }
   where
@@ -80,7 +80,7 @@ listing-counts before now stop h = record { kept = h.kept; rises = by stop h.ris
     by (Refused why) rises = rises
     by NoMemory rises = rises
 
--- where the reading of the scenarios stopped after the list was read, that of the batch did
+-- The reading of the scenarios stopped after the list was read, so the batch stopped.
 pub stopped-each : (names : BatchNames) (listed : ListedView) (before between after : Outside) (status : ℕ) →
     ((files : List StoredFile) → before.files ≡ Some files → listing_of files (inputs_with names names.list) ≡ Ok listed) → None ≡ repeated_result (names_in_words names) listed.lines →
     IsSince before between → between.faults ≡ before.faults →
@@ -100,10 +100,10 @@ stopped-each names listed before between after status read once s same h = recor
     by (Unread own why) under = inr (listed.lines, under, λ files told. (listed.constraints, read files told))
     by (Twice name) under = tt
 
--- ---- the scenarios, one after the other
+-- ---- one scenario after the other
 
 module _ (files : List StoredFile) (names : BatchNames) (c : Constraints) where
-  -- what is made of the lines that are left, behind these inputs
+  -- The inputs so far, and those of the lines that are left.
   abbrev pub behind : List Inputs → List ListedNames → Result (List Inputs) BatchStop
   behind done left = unless_stopped (each_inputs files names c left) (λ more. Ok (done ++ more))
 
@@ -125,7 +125,7 @@ module _ (files : List StoredFile) (names : BatchNames) (c : Constraints) where
       ap (behind done) (drop_more lines i line within ∙ ap (λ y. y ∷ drop (i + 1) lines) (sym is))
       ∙ ap (λ r. unless_stopped (unless_stopped (among (inputs_with names line.scenario) r) (λ inputs. unless_stopped (each_inputs files names c (drop (i + 1) lines)) (λ more. Ok (inputs ∷ more)))) (λ more. Ok (done ++ more))) read
 
-  -- the line at which the reading stops
+  -- The line at which the reading stops.
   pub each-stops : (steady : Bool) (done : List Inputs) (lines : List ListedNames) (i : ℕ) (line : ListedNames) (stop : Stop) → behind done (drop i lines) ≡ each_inputs files names c lines →
       i < length lines → line ≡ get_or lines i line → Agrees {A = Inputs} {B = Inputs} (λ x. x) steady (inputs_beside files c line.scenario) (Err stop) →
       StopsAsHeld steady (each_inputs files names c lines) (Unread (inputs_with names line.scenario) stop)
@@ -147,7 +147,7 @@ pub long-more : (xs : List Inputs) (x : Inputs) → length (xs ++ x ∷ []) ≡ 
 long-more [] x = refl
 long-more (y ∷ ys) x = let e = long-more ys x in omega (arith, e)
 
--- ---- what came of the auctions
+-- ---- the results of the auctions
 
 same-length : (m n : ℕ) → suc m ≡ suc n → m ≡ n
 same-length m n e = cc
@@ -178,7 +178,7 @@ texts-of [] (r ∷ rs) h = absurd h
 texts-of (i ∷ is) [] h = absurd h
 texts-of (i ∷ is) (r ∷ rs) h = let first = h.0 in let text = first.text in let rest = texts-of is rs h.1 in λ j. text j ∷ rest j
 
--- none of them wanted memory
+-- Memory ran out in none of them.
 abbrev pub ran-so : {E : Type 0} → Ran → Result Ran E
 ran-so ran = Ok ran
 
@@ -197,14 +197,14 @@ pub none-wants : {E F V : Type 0} (inputs : List Inputs) (came : List (Result Ra
 none-wants inputs came (Ok all) items e h = all-runs inputs (items all) came e h
 none-wants inputs came (Err why) items e h = tt
 
--- what holds at each place of two lists holds of both
+-- A relation that holds at each place of two lists holds of the lists.
 pub zip-both : {X Y : Type 0} (R : X → Y → Type 0) (xs : List X) (ys : List Y) → length ys ≡ length xs → ((i : ℕ) (d : X) (e : Y) → i < length xs → R (get_or xs i d) (get_or ys i e)) → AllZip R xs ys
 zip-both R [] [] e h = tt
 zip-both R [] (y ∷ ys) e h = absurd (omega arith)
 zip-both R (x ∷ xs) [] e h = absurd (omega arith)
 zip-both R (x ∷ xs) (y ∷ ys) e h = (h 0 x y (omega arith), zip-both R xs ys (omega arith) (λ i d k lt. h (suc i) d k (omega arith)))
 
--- two facts of a value, if there is one
+-- Two properties of a result's value, if it has one.
 pub both-ok : {A E : Type 0} (P Q S : A → Type 0) (r : Result A E) → IfOk r P → IfOk r Q → ((a : A) → P a → Q a → S a) → IfOk r S
 both-ok P Q S (Ok a) p q f = f a p q
 both-ok P Q S (Err e) p q f = tt

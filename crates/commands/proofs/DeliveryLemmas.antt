@@ -1,4 +1,4 @@
--- What a delivery leaves, from what each of its steps does.
+-- What a delivery leaves, from the results of its steps.
 use Rattle.std.proofs.Common.{◌≡◌, ◌≢◌, ◌<◌, ◌≤◌, ◌∙◌, ℕ, true, inl, inr, List, [], ◌∷◌, ◌++◌, length, map, take, refl, sym, ap, subst, arith, Option, Some, None}
 use Rattle.std.specs.Prelude.{Ok, Err, MatchOption, slice_get, suc, zero}
 use Rattle.std.proofs.lemmas.Bool.{true≢false}
@@ -20,16 +20,16 @@ use Rattle.commands.specs.Faults.{AreFaultsCounted}
 use Rattle.commands.proofs.SaysLemmas.{rises-before}
 use Rattle.commands.proofs.Statuses.{off, one-of}
 
--- the texts have names of their own
+-- Whether the texts have different names.
 abbrev pub AreApart : List NamedText → Type 0
 AreApart [] = Unit {0}
 AreApart (x ∷ xs) = IsOther (names_of xs) x.name × AreApart xs
 
--- of a told folder each text was stored
+-- Whether each text was stored, if the folder is modelled.
 abbrev pub LeavesAll : List NamedText → Outside → Outside → Type 0
 LeavesAll xs before after = (files : List StoredFile) → before.files ≡ Some files → AreApart xs → MatchOption after.files ⊥ (λ new. AreStored files new xs)
 
--- the texts up to this one, which was not stored
+-- The texts up to this one, which was not stored.
 pub record IsPart (files : List StoredFile) (xs : List NamedText) (x : NamedText) (after : Outside) : Type 0 where
   pub new : List StoredFile
   pub now_told : after.files ≡ Some new
@@ -39,7 +39,7 @@ pub record IsPart (files : List StoredFile) (xs : List NamedText) (x : NamedText
 abbrev pub LeavesPart : List NamedText → NamedText → Outside → Outside → Type 0
 LeavesPart xs x before after = (files : List StoredFile) → before.files ≡ Some files → AreApart xs → IsPart files xs x after
 
--- How a delivery ends: all is done; the summary fails; a store fails; or memory runs out at one.
+-- How a delivery ends: all is done; the summary fails; a store fails; or memory runs out at a store.
 pub data Ended (xs : List NamedText) (summary : List ℕ) (done : ℕ) (before after : Outside) (status : ℕ) : Type 0 where
   Both : status ≡ done → LeavesAll xs before after → Writes before.held after.held summary (Ok tt) → Ended xs summary done before after status
   NotSaid : status ≡ 4 → LeavesAll xs before after → HasRisen before.cuts after.cuts → before.sure < length summary →
@@ -63,7 +63,7 @@ pub for-told : (o : Option (List StoredFile)) (P Q : List StoredFile → Type 0)
 for-told None P Q f h = h
 for-told (Some new) P Q f h = f new h
 
--- ---- a text before the others
+-- ---- one text before the others
 
 stored-more : (files mid new : List StoredFile) (x : NamedText) (xs : List NamedText) → Puts files mid x.name x.text → IsOther (names_of xs) x.name → AreStored mid new xs → AreStored files new (x ∷ xs)
 stored-more files mid new x xs puts apart st = record {
@@ -71,7 +71,7 @@ stored-more files mid new x xs puts apart st = record {
   others = λ other k. st.others other (All-tail (λ name. other ≢ name) x.name (names_of xs) k) ∙ puts.others other (All-head (λ name. other ≢ name) x.name (names_of xs) k);
 }
 
--- the names up to a text are among those of all
+-- The names up to a text are among the names of all.
 names-up-to : (stored : List NamedText) (failed : NamedText) (left : List NamedText) (other : List ℕ) → IsOther (names_of (stored ++ failed ∷ left)) other → IsOther (names_of stored ++ failed.name ∷ []) other
 names-up-to [] failed left other k =
     All-cons (λ name. other ≢ name) failed.name [] (All-head (λ name. other ≢ name) failed.name (names_of left) k) (All-nil (λ name. other ≢ name))
@@ -110,7 +110,7 @@ up-more x y xs before next after s rest = λ files told apart.
     let (mid, between, puts) = told-store next.files files x.name x.text (subst (λ z. Stores z next.files x.name x.text (Ok tt)) told s.stores) in
     part-more files mid after x y xs puts apart.0 (rest mid between apart.1)
 
--- the first text was not stored
+-- The first text was not stored.
 pub part-here : (x : NamedText) (xs : List NamedText) (e : StoreErr) (before after : Outside) → Stores before.files after.files x.name x.text (Err e) → LeavesPart (x ∷ xs) x before after
 part-here x xs e before after stores = λ files told apart.
     let (new, now, others) = failed-store after.files files x.name x.text e (subst (λ z. Stores z after.files x.name x.text (Err e)) told stores) in
@@ -128,13 +128,13 @@ part-here x xs e before after stores = λ files told apart.
       failed = refl;
     }
 
--- no text is left to store
+-- No text is left to store.
 pub all-none : (before after : Outside) → after.files ≡ before.files → LeavesAll [] before after
 all-none before after same = λ files told apart.
     let here : after.files ≡ Some files = same ∙ told in
     subst (λ o. MatchOption o ⊥ (λ new. AreStored files new [])) (sym here) (record { hold = All-nil (λ x. bytes_of files x.name ≡ Some x.text); others = λ other k. refl })
 
--- ---- the whole
+-- ---- the complete delivery
 
 one-more : (x : NamedText) (xs : List NamedText) (summary : List ℕ) (done : ℕ) (before next after : Outside) (status : ℕ) → IsStored x before next → Ended xs summary done next after status → Ended (x ∷ xs) summary done before after status
 one-more x xs summary done before next after status s (Both is all writes) =
@@ -155,29 +155,29 @@ ended-of (x ∷ xs) summary done before after status (inr (NoRoom eight stores s
 
 -- ---- a delivery in two steps
 
--- all texts were stored, and then the summary printed
+-- All texts were stored, and then the summary was printed.
 pub delivers-all : (xs : List NamedText) (summary : List ℕ) (done : ℕ) (before between after : Outside) (status : ℕ) → AreAllStored xs before between → IsPrinted summary done between after status → Delivers xs summary done before after status
 delivers-all [] summary done before between after status same p = subst (λ (o : Outside). IsPrinted summary done o after status) same p
 delivers-all (x ∷ xs) summary done before between after status all p = inl (all.0, all.1, delivers-all xs summary done all.0 between after status all.2 p)
 
--- one was not
+-- A text was not stored.
 pub delivers-some : (xs : List NamedText) (summary : List ℕ) (done : ℕ) (before after : Outside) (status : ℕ) → StopsAtOne xs before after status → Delivers xs summary done before after status
 delivers-some [] summary done before after status stops = absurd stops
 delivers-some (x ∷ xs) summary done before after status (inl s) = inl (s.0, s.1, delivers-some xs summary done s.0 after status s.2)
 delivers-some (x ∷ xs) summary done before after status (inr n) = inr n
 
--- ---- a folder's own account of several texts
+-- ---- the folder's contract for several texts
 
--- a text that the folder stored
+-- A text that the folder stored.
 stored-one : (x : NewFile) (old new : FolderTold) (sink : SinkTold) → StoresOne (stored_file x) old new → IsStored (named_text x) (outside old sink) (outside new sink)
 stored-one x old new sink one = let same = one.faults in record { stores = one.stores; faults = omega arith; steady = one.steady; held = refl; cuts = refl; sure = refl }
 
--- all of them
+-- All of them.
 pub all-stored : (files : List NewFile) (old new : FolderTold) (sink : SinkTold) → AllStoredBy (map stored_file files) old new → AreAllStored (map named_text files) (outside old sink) (outside new sink)
 all-stored [] old new sink same = ap (λ (f : FolderTold). outside f sink) same
 all-stored (x ∷ xs) old new sink all = (outside all.0 sink, stored-one x old all.0 sink all.1, all-stored xs all.0 new sink all.2)
 
--- the first that it didn't, and what was said of it
+-- The first text that the folder did not store, and the line for it.
 not-stored-one : (x : NewFile) (why : StoreErr) (old new : FolderTold) (sink said : SinkTold) (status : ℕ) → FailsOne (stored_file x) why old new → ExplainsStore x.name.now why sink.held said.held sink.faults said.faults status
     → IsNotStored (named_text x) (outside old sink) (outside new said) status
 not-stored-one x Failed old new sink said status f e = Unwritten e.0 f.stores (f.failed refl) (λ steady. f.surely steady refl) e.1
@@ -200,7 +200,7 @@ pub stops-stored : (files : List NewFile) (place : ℕ) (why : StoreErr) (old ne
     → StopsAtOne (map named_text files) (outside old sink) (outside new said) status
 stops-stored files place why old new sink said status s explains = stops-there files place why old s.between new sink said status s.file s.there s.before s.fails explains
 
--- what of the folder's faults is told
+-- A successful store does not change the fault count.
 pub all-uncounted : (xs : List StoredFile) (old new : FolderTold) → AllStoredBy xs old new → new.faults ≡ old.faults
 all-uncounted [] old new same = ap (λ (f : FolderTold). f.faults) same
 all-uncounted (x ∷ xs) old new all = all-uncounted xs all.0 new all.2 ∙ all.1.faults
@@ -218,7 +218,7 @@ stops-counted xs place NoMemory old new sink said status name s e = record {
 
 -- ---- a delivery, seen from before the reading
 
--- what stands between the two differs in a count of faults that didn't fall
+-- Whether only a fault count differs, and did not fall.
 pub record IsSince (before between : Outside) : Type 0 where
   pub files : between.files ≡ before.files
   pub faults : before.faults ≤ between.faults

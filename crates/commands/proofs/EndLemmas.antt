@@ -1,4 +1,4 @@
--- How the two commands end, from what their parts did.
+-- How the commands end, from the results of their parts.
 use Rattle.std.proofs.Common.{◌≡◌, ◌<◌, ◌≤◌, ◌∙◌, ◌||◌, not, ℕ, Bool, true, false, cond, inl, inr, List, [], ◌∷◌, refl, sym, ap, subst}
 use Rattle.std.specs.Prelude.{Some, None, Err, IsOk}
 use Rattle.std.specs.List.{cons_option, list_any}
@@ -20,7 +20,7 @@ use Rattle.commands.proofs.RecordLemmas.{record-in}
 
 -- ---- the record
 
--- a backed record is that of the inputs' auction in its order, by how it ended
+-- A backed record is that of the inputs' auction in its order, by its ending.
 pub ended-record : (order : Order) (inputs : Inputs) (rec : Record) → IsAuction inputs.scenario inputs.book → IsBacked inputs.scenario inputs.book order rec → IsEndedRecordIn order inputs rec rec.ending
 ended-record order inputs rec a b = by rec.ending refl
   where
@@ -31,21 +31,21 @@ ended-record order inputs rec a b = by rec.ending refl
         let left = open-receipts inputs.scenario inputs.book order rec b e in
         record { backed = b; ending = e; receipts = left.0; shown = left.1; spent = left.2 }
 
--- that of a run
+-- The same for a run.
 pub record-by : (inputs : Inputs) (rec : Record) → IsAuction inputs.scenario inputs.book → IsBacked inputs.scenario inputs.book run_order rec → IsRecordBy inputs rec rec.ending
 record-by inputs rec a b = ended-record run_order inputs rec a b
 
--- a record is backed in one order alone
+-- A record is backed in only one order.
 pub ended-order : (order : Order) (inputs : Inputs) (rec : Record) (ending : Ending) → IsEndedRecordIn order inputs rec ending → rec.order ≡ order
 ended-order order inputs rec Done of = let b = of.backed in b.order_is
 ended-order order inputs rec StartRefuted of = let b = of.backed in b.order_is
 ended-order order inputs rec StartUndecided of = let b = of.backed in b.order_is
 
--- so it is a record in its own order
+-- So it is a record in its own order.
 pub own-ended : (order : Order) (inputs : Inputs) (rec : Record) (ending : Ending) → IsEndedRecordIn order inputs rec ending → IsEndedRecordIn rec.order inputs rec ending
 own-ended order inputs rec ending of = subst (λ o. IsEndedRecordIn o inputs rec ending) (sym (ended-order order inputs rec ending of)) of
 
--- the undecided tests are none exactly where no step is shown so
+-- No test is undecided exactly if no step is.
 pub none-undecided : (steps : List Step) → is_empty (undecided_of steps) ≡ not (list_any (λ x. is_undecided x.shown) steps)
 none-undecided [] = refl
 none-undecided (x ∷ xs) =
@@ -54,7 +54,7 @@ none-undecided (x ∷ xs) =
       | false ↦ none-undecided xs
     ]
 
--- the status of a record that was carried through
+-- The status for the record of a finished auction.
 pub status-by : (steps : List Step) (b : Bool) → b ≡ list_any (λ x. is_undecided x.shown) steps → done_status (undecided_of steps) ≡ cond {A = ℕ} b 1 0
 status-by steps b is = ap (λ z. cond {A = ℕ} z 0 1) (none-undecided steps ∙ ap not (sym is)) ∙ turned b
   where
@@ -64,6 +64,6 @@ status-by steps b is = ap (λ z. cond {A = ℕ} z 0 1) (none-undecided steps ∙
 
 -- ---- the counts
 
--- a write that failed was of more than the sink surely takes
+-- A write that failed was of more bytes than the sink guarantees to take.
 pub cut-over : (sure n : ℕ) (e : Failed) → (n ≤ sure → IsOk {T = Unit {0}} (Err e)) → sure < n
 cut-over sure n e surely = elim (cases_lt sure n) [ inl over ↦ over | inr within ↦ absurd (false≢true (surely within)) ]

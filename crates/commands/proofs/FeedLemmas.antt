@@ -1,4 +1,4 @@
--- A reader that is fed a file piece by piece: what was handed out and what is left are the file.
+-- A reader that is fed a file piece by piece: the pieces that it got and what is left are the file.
 use Rattle.std.proofs.Common.{◌≡◌, ◌∙◌, ◌<◌, ◌++◌, ◌∷◌, [], ℕ, zero, suc, List, Bool, Option, Some, Result, Ok, Err, take, drop, length, refl, sym, ap, subst, arith, append_assoc}
 use Rattle.std.proofs.lemmas.List.{append-nil, take-append-drop}
 use Rattle.outside_io.specs.Pieces.{piece_size}
@@ -11,11 +11,11 @@ use Rattle.commands.specs.declared.input_file.Stop.TheVariants.{CannotRead, Refu
 use Rattle.commands.specs.Inputs.{Agrees, and_then, refused_by, rows_read}
 use Rattle.commands.specs.Pieces.{IsFed, IsHandedOut}
 
--- what the reader has been fed since it stood at the start, and what is left, are what it had been fed and what was left then
+-- Whether the bytes fed since the start, and the bytes left, are those fed and left at the start.
 pub record IsFeeding {R : Type 0} (fed : List ℕ → Result R ReadErr) (before left : Option (List ℕ)) (start reader : R) : Type 0 where
   pub so_far : (done rest : List ℕ) → before ≡ Some rest → fed done ≡ Ok start → (d : List ℕ) × (r : List ℕ) × (left ≡ Some r) × (fed d ≡ Ok reader) × (d ++ r ≡ done ++ rest)
 
--- a piece and the bytes behind it are what was left before it
+-- A piece and the bytes after it are what was left before it.
 piece-joins : (d r all piece : List ℕ) → d ++ r ≡ all → piece ≡ take piece_size r → (d ++ piece) ++ drop piece_size r ≡ all
 piece-joins d r all piece whole is =
     append_assoc d piece (drop piece_size r) ∙ ap (λ p. d ++ (p ++ drop piece_size r)) is ∙ ap (λ p. d ++ p) (take-append-drop piece_size r) ∙ whole
@@ -37,7 +37,7 @@ none-left (suc n) (x ∷ xs) piece some is none =
     let long : length piece ≡ suc (length (take n xs)) = ap length is in
     absurd (omega (arith, long, none))
 
--- where a piece has no byte, all was fed
+-- A piece without bytes means that all was fed.
 pub feed-end : {R : Type 0} (fed : List ℕ → Result R ReadErr) (before left after : Option (List ℕ)) (piece : List ℕ) (start reader : R) → IsFeeding fed before left start reader
     → ((rest : List ℕ) → left ≡ Some rest → (piece ≡ take piece_size rest) × (after ≡ Some (drop piece_size rest))) → length piece ≡ 0
     → (done rest : List ℕ) → before ≡ Some rest → fed done ≡ Ok start → fed (done ++ rest) ≡ Ok reader
@@ -47,7 +47,7 @@ feed-end fed before left after piece start reader h handed none done rest e f =
     let all : d ≡ done ++ rest = sym (append-nil d) ∙ ap (λ p. d ++ p) (sym (none-left piece_size r piece (omega arith) is none)) ∙ whole in
     subst (λ bytes. fed bytes ≡ Ok reader) all had
 
--- where a piece is not handed out, the feeding stops
+-- If a piece is not returned, the feeding stops.
 pub feed-fails : {R A : Type 0} (fed : List ℕ → Result R ReadErr) (held : List ℕ → Result A Stop) (before left after : Option (List ℕ)) (piece : List ℕ) (start reader : R) (steady : Bool) (why : Stop) → IsFeeding fed before left start reader
     → ((rest : List ℕ) → left ≡ Some rest → IsHandedOut steady rest after piece (Err why))
     → (done rest : List ℕ) → before ≡ Some rest → fed done ≡ Ok start → IsFed steady (fed (done ++ rest)) (held (done ++ rest)) (Err why)
@@ -59,7 +59,7 @@ feed-fails fed held before left after piece start reader steady (Refused w) h ha
     absurd (handed r is-left)
 feed-fails fed held before left after piece start reader steady NoMemory h handed done rest e f = tt
 
--- where the bytes so far are refused, the whole file is
+-- If the bytes so far are rejected, the complete file is.
 pub feed-refused : {R A : Type 0} (fed : List ℕ → Result R ReadErr) (read : List ℕ → Result A ReadErr) (input : Input) (before left after : Option (List ℕ)) (piece : List ℕ) (start reader : R) (steady : Bool) (why : ReadErr)
     → ((xs ys : List ℕ) (e : ReadErr) → fed xs ≡ Err e → read (xs ++ ys) ≡ Err e) → IsFeeding fed before left start reader
     → ((rest : List ℕ) → left ≡ Some rest → (piece ≡ take piece_size rest) × (after ≡ Some (drop piece_size rest)))
@@ -83,7 +83,7 @@ pub refused-so : {A : Type 0} (steady : Bool) (input : Input) (read : Result A R
 refused-so steady input read (Row line w) h = ap (rows_read input) h
 refused-so steady input read NoRoom h = tt
 
--- what is told of a file whose bytes are these
+-- The error of a file with these bytes.
 pub from-fails : {R A : Type 0} (steady now_steady : Bool) (held : Result (List ℕ) Stop) (read : List ℕ → Result A Stop) (bytes : List ℕ) (fed : Result R ReadErr) (why : Stop) → now_steady ≡ steady → held ≡ Ok bytes
     → IsFed now_steady fed (read bytes) (Err why) → Agrees (λ (x : A). x) steady (and_then held read) (Err why)
 from-fails {A = A} steady now_steady held read bytes fed why same e h =

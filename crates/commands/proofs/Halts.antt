@@ -1,4 +1,4 @@
--- A reading of the inputs: what stopped it, and what that shows.
+-- The reading of the inputs: what stopped it, and what follows.
 use Rattle.std.proofs.Common.{◌≡◌, ◌≢◌, ◌⊎◌, ◌∙◌, ℕ, true, inl, inr, List, [], ◌∷◌, refl, sym, subst, arith}
 use Rattle.std.specs.Prelude.{Some, Ok, Err, Result, IsTrue}
 use Rattle.pack_defs.specs.Lists.{is_in}
@@ -45,13 +45,13 @@ stopped-memory names before after status h eight = by h.stop h.explains
     by (Refused why) e = let five = e.0 in absurd (omega arith)
     by NoMemory e = e.1
 
--- a reading of the inputs: it stopped; memory ran out; or it went on
+-- How a reading of the inputs ends: it stopped; memory ran out; or it succeeded.
 pub data Reading (names : InputNames) (before after : Outside) (status : ℕ) : Type 0 where
   Halted : IsHalted names before after status → Reading names before after status
   Short : status ≡ 8 → Reading names before after status
   Went : (inputs : Inputs) → AreInputsOf names before inputs → IsTrue (is_in (0 ∷ 1 ∷ 4 ∷ 6 ∷ 7 ∷ 8 ∷ []) status) → Reading names before after status
 
--- ---- what a reading shows
+-- ---- what follows from a reading
 
 abbrev pub held : Inputs → Result Inputs Stop
 held inputs = Ok inputs
@@ -74,7 +74,7 @@ refused-cause names before after status files (Halted h) told five = by h.stop (
 refused-cause names before after status files (Short eight) told five = absurd (omega arith)
 refused-cause names before after status files (Went inputs are on) told five = absurd (off (0 ∷ 1 ∷ 4 ∷ 6 ∷ 7 ∷ 8 ∷ []) status 5 on five refl)
 
--- the line names the input that could not be read
+-- The line names the input that could not be read.
 pub unread-line : (names : InputNames) (before after : Outside) (status : ℕ) → Reading names before after status → status ≡ 3 → (input : Input) × IsSaid before after (unread_line (name_of names input))
 unread-line names before after status (Halted h) three = by h.stop h.explains
   where
@@ -85,7 +85,7 @@ unread-line names before after status (Halted h) three = by h.stop h.explains
 unread-line names before after status (Short eight) three = absurd (omega arith)
 unread-line names before after status (Went inputs are on) three = absurd (off (0 ∷ 1 ∷ 4 ∷ 6 ∷ 7 ∷ 8 ∷ []) status 3 on three refl)
 
--- a status that an input stops at, where the files hold another thing than inputs
+-- The reading stops at status 5 if the files hold rejected inputs, unless memory ran out or a fault occurred.
 pub stops-at : (names : InputNames) (before after : Outside) (status : ℕ) (files : List StoredFile) (why : Refusal) → Reading names before after status → before.files ≡ Some files → inputs_of files names ≡ Err (Refused why) → IsOr 5 before status
 stops-at names before after status files why (Halted h) told is = by h.stop (h.told files told) h.explains
   where
@@ -127,7 +127,7 @@ missing-one names before after status files input (Halted h) told steady is = by
 missing-one names before after status files input (Short eight) told steady is = inl eight
 missing-one names before after status files input (Went inputs are on) told steady is = absurd (not-both inputs (CannotRead input) (sym (are files told) ∙ is))
 
--- where the files hold inputs, a reading that stopped did so for want of memory or by a fault
+-- If the files hold inputs, a reading that stopped ran out of memory or met a fault.
 pub halted-held : (names : InputNames) (before after : Outside) (status n : ℕ) (files : List StoredFile) (inputs : Inputs) → IsHalted names before after status → before.files ≡ Some files → inputs_of files names ≡ Ok inputs → IsOr n before status
 halted-held names before after status n files inputs h told is = by h.stop (h.told files told) h.explains
   where

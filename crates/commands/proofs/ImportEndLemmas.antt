@@ -1,4 +1,4 @@
--- An import that was carried through: what it leaves of the record, of its result and of the files.
+-- An import that was completed: the new record, its result, and the files.
 use Rattle.std.proofs.Common.{◌≡◌, ◌≢◌, ◌∙◌, ℕ, Bool, true, false, List, [], ◌∷◌, map, refl, sym, ap, subst, Option, Some, None}
 use Rattle.std.specs.Prelude.{IfErr, IfOk, Ok, Err, MatchOption, Result, if◌then◌else◌, ⊤}
 use Rattle.std.proofs.lemmas.Bool.{true≢false}
@@ -41,7 +41,7 @@ use Rattle.commands.proofs.RecordLemmas.{record-in}
 
 -- ---- the step
 
--- a step that can be settled is there, and undecided
+-- A step that can be settled exists and is undecided.
 pub undecided-some : (o : Option Step) → open_fault o ≡ None → (x : Step) × (o ≡ Some x) × (is_undecided x.shown ≡ true)
 undecided-some None e = cc
 undecided-some (Some x) e = (x, refl, go (is_undecided x.shown) refl e)
@@ -53,13 +53,13 @@ undecided-some (Some x) e = (x, refl, go (is_undecided x.shown) refl e)
 pub left-undecided : (rec : Record) (step : ℕ) (x : Step) → step_numbered rec.steps step ≡ Some x → is_undecided x.shown ≡ true → IsLeftOpen rec step
 left-undecided rec step x there undecided = subst (λ o. MatchOption o ⊥ (λ y. is_undecided y.shown ≡ true)) (sym there) undecided
 
--- one that has a fault has no other
+-- A step with an error is not free of errors.
 pub two-faults : {X : Type 0} (o : Option Step) (fault : StepFault) → open_fault o ≡ Some fault → open_fault o ≡ None → X
 two-faults o fault some none = cc (sym some ∙ none)
 
 -- ---- what it changes
 
--- what an import leaves of the tests left open, and of the rows of the result
+-- What an import changes of the undecided tests, and of the rows of the result.
 pub record IsChanged (inputs : Inputs) (rec new : Record) (x : Step) : Type 0 where
   pub left : undecided_of new.steps ≡ without_test (test_of x) (undecided_of rec.steps)
   pub rows : result_rows inputs.scenario (outcome new.order inputs (undecided_of new.steps)) (undecided_of new.steps)
@@ -84,9 +84,9 @@ changed inputs rec new step text x a own there undecided settled =
     ∙ rows-decided sc (clock_rule sc book rec.order U) U (test_of x) in
     subst (λ (r : Record). IsChanged inputs rec r x) (sym said.same) (record { left = left_now; rows = rows })
 
--- ---- what an import answers
+-- ---- the result of an import
 
--- the record that a settled step leaves is one of the inputs' auction
+-- The record with a settled step is one of the inputs' auction.
 pub settling : (inputs : Inputs) (rec : Record) (step : ℕ) (text : List ℕ) (r : Result Record SettleErr) → IsAuction inputs.scenario inputs.book → IsRecordIn rec.order inputs rec
     → IfOk r (λ new. settled_text inputs.book rec step text ≡ Ok new) → IfOk r (IsBacked rec.scenario inputs.book rec.order) → IfErr r (λ e. SettleFails e (settled_text inputs.book rec step text))
     → IsSettling inputs (settled_text inputs.book rec step text) r
@@ -99,7 +99,7 @@ settling inputs rec step text (Err why) a own settled backed is = is
 
 -- ---- how an import ends
 
--- the log was not loaded
+-- The log was not loaded.
 pub no-log : (names : ImportNames) (before after : Outside) (status : ℕ) (found : Option Record) (inputs : Inputs) (rec : Record) (why : LoadErr) → IsShown names.shown before inputs rec → open_fault (step_numbered rec.steps names.step) ≡ None
     → IsFileRead before.files before.steady before.faults after.faults names.proof (Err why) → ExplainsLoad names.proof why before.held after.held before.cuts after.cuts status
     → found ≡ None → after.files ≡ before.files → ImportEnds names before after status found
@@ -107,7 +107,7 @@ no-log names before after status found inputs rec Failed s is h e none files = N
 no-log names before after status found inputs rec TooLong s is h e none files = NoLog inputs rec s is (LongText e.0 h e.1) none files
 no-log names before after status found inputs rec NoLoad s is h e none files = ImportStarved (record { status_is = e.0; found_is = none; line = e.1; files = files })
 
--- and the folder's count of faults rose at status 3 alone
+-- The folder's fault count rose only at status 3.
 pub no-log-counted : (name : List ℕ) (before after : Outside) (status : ℕ) (why : LoadErr) → ExplainsLoad name why before.held after.held before.cuts after.cuts status → (why ≢ Failed → after.faults ≡ before.faults) → AreFaultsCounted before after status
 no-log-counted name before after status Failed e stands = record {
   folder = λ h. absurd (true≢false (sym (one-of (3 ∷ 4 ∷ []) status 3 e.0 refl) ∙ h));
@@ -116,7 +116,7 @@ no-log-counted name before after status Failed e stands = record {
 no-log-counted name before after status TooLong e stands = record { folder = λ h. stands (λ x. cc); sink = λ h. absurd (off (0 ∷ 1 ∷ 11 ∷ []) status 5 h e.0 refl) }
 no-log-counted name before after status NoLoad e stands = record { folder = λ h. stands (λ x. cc); sink = λ h. absurd (off (0 ∷ 1 ∷ 11 ∷ []) status 8 h e.0 refl) }
 
--- the log settled nothing
+-- The log settled nothing.
 pub not-settled : (names : ImportNames) (before after : Outside) (status : ℕ) (found : Option Record) (inputs : Inputs) (rec : Record) (log : List ℕ) (why : SettleErr) → IsShown names.shown before inputs rec → open_fault (step_numbered rec.steps names.step) ≡ None
     → IsFileHeld names.proof before log → SettleFails why (settled_text inputs.book rec names.step log) → ExplainsLog names.proof why before.held after.held before.cuts after.cuts status
     → found ≡ None → after.files ≡ before.files → ImportEnds names before after status found
@@ -124,13 +124,13 @@ not-settled names before after status found inputs rec log (Unread why) s is hel
 not-settled names before after status found inputs rec log NoRefutation s is held h e none files = NotSettled inputs rec log NoRefutation s is held h e.0 none e.1 files
 not-settled names before after status found inputs rec log NoRoom s is held h e none files = ImportStarved (record { status_is = e.0; found_is = none; line = e.1; files = files })
 
--- ---- where the outside stood until then
+-- ---- the state before
 
--- what is settled, from before the transcript was read
+-- What is settled, from the state before the transcript was read.
 pub import-since : (names : ImportNames) (before between after : Outside) (status : ℕ) (found : Option Record) → between ≡ before → ImportEnds names between after status found → ImportEnds names before after status found
 import-since names before between after status found same ends = subst (λ (b : Outside). ImportEnds names b after status found) same ends
 
--- the step is none to settle, which is said
+-- There is no such step to settle, and a line says so.
 pub no-open-step : (names : ImportNames) (before between after : Outside) (status : ℕ) (found : Option Record) (inputs : Inputs) (rec : Record) (fault : StepFault) → IsShown names.shown before inputs rec → open_fault (step_numbered rec.steps names.step) ≡ Some fault
     → status ≡ 10 → found ≡ None → between ≡ before → IsSaid between after (step_line names.step fault) → after.files ≡ between.files → ImportEnds names before after status found
 no-open-step names before between after status found inputs rec fault s is ten none same said files =
@@ -161,7 +161,7 @@ not-settled-since names before between after status said found inputs rec log wh
     (subst (λ (b : Outside). ExplainsLog names.proof why b.held after.held b.cuts after.cuts status) same (subst (ExplainsLog names.proof why between.held after.held between.cuts after.cuts) (sym status_is) e))
     none (files ∙ ap (λ (o : Outside). o.files) same)
 
--- the log settled the step, and the new record was delivered
+-- The log settled the step, and the new record was delivered.
 pub settled-since : (names : ImportNames) (before between later after : Outside) (status : ℕ) (found : Option Record) (inputs : Inputs) (rec : Record) (log : List ℕ) (new : Record) → IsShown names.shown before inputs rec → open_fault (step_numbered rec.steps names.step) ≡ None
     → between ≡ before → IsFileHeld names.proof between log → settled_text inputs.book rec names.step log ≡ Ok new → IsRecordIn new.order inputs new → IsHeld new → found ≡ Some new → IsSince between later
     → Delivers (import_texts names inputs new) (summary_in new.order inputs (undecided_of new.steps)) (done_status (undecided_of new.steps)) later after status → ImportEnds names before after status found

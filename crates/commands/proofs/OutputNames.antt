@@ -1,4 +1,4 @@
--- Where no output name is given twice, the three texts that a command stores have names of their own.
+-- If no output name is given twice, the three texts that a command stores have different names.
 use Rattle.std.proofs.Common.{◌≡◌, ◌≢◌, ◌<◌, ◌∙◌, ℕ, Bool, true, cond, inl, inr, List, [], ◌∷◌, ◌++◌, count_by, refl, sym, arith, None, subst}
 use Rattle.std.specs.Prelude.{Contains, find}
 use Rattle.std.specs.Str.{bytes_eq}
@@ -14,18 +14,18 @@ use Rattle.commands.specs.Made.{input_texts_under}
 use Rattle.commands.proofs.DeliveryLemmas.{AreApart}
 use Rattle.transcript_text.proofs.FieldReads.{same-bytes}
 
--- the three texts that are stored under these names have names of their own, whatever they are
+-- Whether the three texts that are stored under these names have different names, whatever the texts are.
 abbrev pub HaveOwnNames : RunNames → Type 0
 HaveOwnNames names = (result channels transcript : List ℕ) → AreApart (output_texts names result channels transcript)
 
--- what a search doesn't find doesn't pass
+-- What a search does not find does not pass the test.
 pub not-found : (p : List ℕ → Bool) (xs : List (List ℕ)) (x : List ℕ) → find p xs ≡ None → Contains xs x → p x ≡ true → ⊥
 not-found p xs x none here passes = elim (find_cases p xs) [
   | inl absent ↦ false≢true (sym absent.1 ∙ list_any-from p xs x here passes)
   | inr found ↦ cc (sym none ∙ found.1)
 ]
 
--- two that pass are counted
+-- Two elements that pass are counted.
 two-pass : (p : List ℕ → Bool) (xs ys zs : List (List ℕ)) (a b : List ℕ) → p a ≡ true → p b ≡ true → 1 < count_by p (xs ++ a ∷ (ys ++ b ∷ zs))
 two-pass p xs ys zs a b first second =
     let f : List ℕ → ℕ = λ x. cond (p x) 1 0 in
@@ -33,7 +33,7 @@ two-pass p xs ys zs a b first second =
     let other : f b ≡ 1 = cond-true (p b) 1 0 second in
     omega (arith, sum_by-append f xs (a ∷ (ys ++ b ∷ zs)), sum_by-cons f a (ys ++ b ∷ zs), sum_by-append f ys (b ∷ zs), sum_by-cons f b zs, one, other)
 
--- a name that stands at two places is given twice
+-- A name at two places is given twice.
 given-twice : (names : RunNames) (xs ys zs : List (List ℕ)) (a b : List ℕ) → xs ++ a ∷ (ys ++ b ∷ zs) ≡ run_names_given names → a ≡ b → is_repeated_in a names ≡ true
 given-twice names xs ys zs a b whole same =
     lt-ltb 1 (count_by (bytes_eq a) (run_names_given names))
@@ -60,7 +60,7 @@ own-names names result channels transcript once =
 
 -- ---- the files of `make`
 
--- a name that stands at two places of a list is repeated among them
+-- A name at two places of a list is repeated in it.
 pub twice-among : (given xs ys zs : List (List ℕ)) (a b : List ℕ) → xs ++ a ∷ (ys ++ b ∷ zs) ≡ given → a ≡ b → is_repeated_among given a ≡ true
 twice-among given xs ys zs a b whole same =
     lt-ltb 1 (count_by (bytes_eq a) given)

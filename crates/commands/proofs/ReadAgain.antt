@@ -1,4 +1,4 @@
--- The transcript that is written of a record is verified as that record, beside inputs that files hold.
+-- The transcript that is written of a record is verified as that record, with inputs that files hold.
 use Rattle.std.proofs.Common.{◌≡◌, ◌∙◌, ℕ, List, ap, subst, sym, arith}
 use Rattle.std.specs.Prelude.{None, Result, Ok, Err}
 use Rattle.constraint_files.specs.Domains.{domains_of}
@@ -39,7 +39,7 @@ rows-ok : {A : Type 0} (input : Input) (r : Result A ReadErr) (x : A) → rows_r
 rows-ok input (Ok own) x e = cc
 rows-ok input (Err why) x e = cc
 
--- what the inputs are made of
+-- The parts that the inputs are made of.
 from-parts : (sc : Scenario) (pairs : PairsView) (r : Result BookView JoinErr) (inputs : Inputs) → inputs_from sc pairs r ≡ Ok inputs → (sc ≡ inputs.scenario) × (r ≡ Ok inputs.book)
 from-parts sc pairs (Ok book) inputs e =
     let same : record { scenario = sc; book = book; self_pairs = pairs.self_pairs; strangers = pairs.strangers } ≡ inputs = cc in
@@ -47,7 +47,7 @@ from-parts sc pairs (Ok book) inputs e =
 from-parts sc pairs (Err (MissingDomain s)) inputs e = cc
 from-parts sc pairs (Err NoSpace) inputs e = cc
 
--- the domains are those that a file holds
+-- The domains are those that a file holds.
 pub sources-domains : (files : List StoredFile) (names : InputNames) (sources : Sources) → sources_of files names ≡ Ok sources → (bytes : List ℕ) × (domains_of bytes ≡ Ok sources.domains)
 unfolding sources_of
 sources-domains files names sources e =
@@ -58,7 +58,7 @@ sources-domains files names sources e =
     let same : record { domains = domains; pairs = pairs; scenario = sc } ≡ sources = cc in
     (bytes, rows-ok Domains (domains_of bytes) domains held ∙ ap (λ (s : Sources). Ok s.domains) same)
 
--- the book is made of the domains that a file holds
+-- The book is made of the domains that a file holds.
 valued-book : (files : List StoredFile) (names : InputNames) (inputs : Inputs) → valued_of files names ≡ Ok inputs →
     (bytes : List ℕ) × (domains : List Domain) × (pairs : List Pair) × (domains_of bytes ≡ Ok domains) × (joined inputs.scenario domains pairs ≡ Ok inputs.book)
 valued-book files names inputs e =
@@ -67,7 +67,7 @@ valued-book files names inputs e =
     let (same, made) = from-parts sources.scenario sources.pairs (joined sources.scenario sources.domains sources.pairs.list) inputs joined-ok in
     (bytes, sources.domains, sources.pairs.list, held, subst (λ (s : Scenario). joined s sources.domains sources.pairs.list ≡ Ok inputs.book) same made)
 
--- so its channels are those of a file
+-- So its channels are those of a file.
 valued-channels : (files : List StoredFile) (names : InputNames) (inputs : Inputs) → valued_of files names ≡ Ok inputs → HasFileChannels inputs.book
 valued-channels files names inputs e s c h =
     let (bytes, domains, pairs, read, made) = valued-book files names inputs e in
@@ -79,7 +79,7 @@ accepted-channels files names inputs e =
     let (said, same) = said-else files names.owners valued inputs more in
     subst (λ (i : Inputs). HasFileChannels i.book) (sym same) (valued-channels files names valued read)
 
--- so the inputs are those of an auction
+-- So the inputs are those of an auction.
 pub accepted-auction : (files : List StoredFile) (names : InputNames) (inputs : Inputs) → inputs_of files names ≡ Ok inputs → CanBeNamed inputs → IsAuction inputs.scenario inputs.book
 accepted-auction files names inputs e can =
     let named = can (accepted-channels files names inputs e) in
@@ -89,7 +89,7 @@ accepted-auction files names inputs e can =
 
 -- ---- the transcript of a record
 
--- a sound transcript's record is what its check gives
+-- The check of a sound transcript returns its record.
 shown-ok : (inputs : Inputs) (rec own : Record) (o : _) → o ≡ None → own ≡ rec → shown_or o own ≡ Ok rec
 shown-ok inputs rec own o none same = ap (λ z. shown_or z own) none ∙ ap Ok same
 

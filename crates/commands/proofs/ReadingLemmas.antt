@@ -1,4 +1,4 @@
--- Where the input files are there, none of them can't be read; and what is accepted stands in the scenario file.
+-- If the input files exist, none of them is reported unreadable; and accepted inputs are those of the scenario file.
 use Rattle.std.proofs.Common.{◌≡◌, ◌∙◌, ℕ, List, [], ◌∷◌, length, map, nat_lt, refl, sym, ap, subst, inl, inr}
 use Rattle.std.specs.Prelude.{IfOk, MatchOption, Option, Some, None, Result, Ok, Err, IsSome, ⊤}
 use Rattle.std.proofs.lemmas.Bool.{cases_Bool}
@@ -33,7 +33,7 @@ use Rattle.commands.specs.Inputs.{and_then, bytes_within, file_limit, file_of, i
 use Rattle.commands.specs.Promises.{AreThere}
 use Rattle.command_words.specs.Words.{InputNames}
 
--- a joined book is of exactly the scenario's stations
+-- A joined book is of exactly the scenario's stations.
 pub joined-stations : (sc : Scenario) (domains : List Domain) (pairs : List Pair) (book : BookView) → joined sc domains pairs ≡ Ok book → stations_of book ≡ facilities sc
 unfolding joined
 joined-stations sc domains pairs book e =
@@ -48,7 +48,7 @@ joined-stations sc domains pairs book e =
     own top domains [] = refl
     own top domains (x ∷ xs) = ap (λ ys. x ∷ ys) (own top domains xs)
 
--- the reading doesn't stop at a file that can't be read
+-- Whether the reading does not stop at an unreadable file.
 CanRead : {A : Type 0} → Result A Stop → Type 0
 CanRead {A} r = (i : Input) → r ≡ Err (CannotRead i) → ⊥
 
@@ -131,7 +131,7 @@ can-read files names i h =
 
 -- ---- accepted inputs
 
--- what the owners say is within the limits
+-- A scenario with owners' answers stays within the limits.
 live-limits : (sc : Scenario) (said : Option (List OwnerLine)) → IsWithinLimits sc → IsWithinLimits (with_owners sc said)
 live-limits sc said h = record {
   least_top = h.least_top;
@@ -164,7 +164,7 @@ from-ok sc pairs (Ok book) inputs e =
 from-ok sc pairs (Err (MissingDomain s)) inputs e = cc
 from-ok sc pairs (Err NoSpace) inputs e = cc
 
--- the scenario that the first three files hold stands in the scenario file
+-- The scenario that the first three files hold is that of the scenario file.
 pub sources-scenario : (files : List StoredFile) (names : InputNames) (sources : Sources) → sources_of files names ≡ Ok sources → (bytes : List ℕ) × (scenario_of bytes ≡ Ok sources.scenario)
 unfolding sources_of
 sources-scenario files names sources e =
@@ -181,13 +181,13 @@ valued-scenario files names inputs e =
     let (bytes, held) = sources-scenario files names sources read in
     (bytes, held ∙ ap Ok (from-ok sources.scenario sources.pairs (joined sources.scenario sources.domains sources.pairs.list) inputs joined-ok))
 
--- accepted inputs are what the first three files hold, but for what the owners say
+-- Accepted inputs are what the first three files hold, except for the owners' answers.
 pub accepted-valued : (files : List StoredFile) (names : InputNames) (inputs : Inputs) → inputs_of files names ≡ Ok inputs →
     (valued : Inputs) × (valued_of files names ≡ Ok valued) × (with_said files names.owners valued ≡ Ok inputs)
 unfolding inputs_of
 accepted-valued files names inputs e = then-ok (valued_of files names) (with_said files names.owners) inputs e
 
--- what the owners' file says, if it was accepted
+-- The owners' answers, if their file was accepted.
 pub said-ok : (files : List StoredFile) (name : List ℕ) (valued inputs : Inputs) → with_said files (Some name) valued ≡ Ok inputs →
     (lines : List OwnerLine) × (said_in files name valued.scenario ≡ Ok lines) × (inputs ≡ live_inputs valued lines)
 said-ok files name valued inputs e =
@@ -195,13 +195,13 @@ said-ok files name valued inputs e =
     let is : inputs ≡ live_inputs valued lines = cc in
     (lines, said, is)
 
--- so the owners alone make a difference
+-- So only the owners can differ.
 pub said-else : (files : List StoredFile) (name : Option (List ℕ)) (valued inputs : Inputs) → with_said files name valued ≡ Ok inputs →
     (said : Option (List OwnerLine)) × (inputs ≡ record valued { scenario = with_owners valued.scenario said })
 said-else files None valued inputs e = let same : inputs ≡ valued = cc in (valued.scenario.owners, same)
 said-else files (Some name) valued inputs e = let (lines, said, same) = said-ok files name valued inputs e in (Some lines, same)
 
--- the scenario of accepted inputs stands in the scenario file, but for what the owners say
+-- The scenario of accepted inputs is that of the scenario file, except for the owners' answers.
 pub accepted-scenario : (files : List StoredFile) (names : InputNames) (inputs : Inputs) → inputs_of files names ≡ Ok inputs →
     (bytes : List ℕ) × (sc : Scenario) × (said : Option (List OwnerLine)) × (scenario_of bytes ≡ Ok sc) × (inputs.scenario ≡ with_owners sc said)
 accepted-scenario files names inputs e =
@@ -210,7 +210,7 @@ accepted-scenario files names inputs e =
     let (said, same) = said-else files names.owners valued inputs more in
     (bytes, valued.scenario, said, held, ap (λ (i : Inputs). i.scenario) same)
 
--- so it is within the limits, its stations ascend, and its values stand for the owners where no owners' file is named
+-- So it is within the limits, its stations ascend, and its values stand for the owners if no owners' file is named.
 pub accepted-limits : (files : List StoredFile) (names : InputNames) (inputs : Inputs) → inputs_of files names ≡ Ok inputs → IsWithinLimits inputs.scenario
 accepted-limits files names inputs e =
     let (bytes, sc, said, held, same) = accepted-scenario files names inputs e in

@@ -1,4 +1,4 @@
--- A backed record that was carried through is that of the inputs' auction, in whatever order a round tests its stations.
+-- The backed record of a finished auction is that of the inputs' auction, in either order of tests.
 use Rattle.std.proofs.Common.{◌≡◌}
 use Rattle.pack_defs.specs.declared.order.Order.{Order}
 use Rattle.auction_core.specs.declared.record.Ending.TheVariants.{Done}

@@ -1,4 +1,4 @@
--- How `resume` ends, from what its parts did; and what a beginning that is gone on from says of the start.
+-- How `resume` ends, from the results of its parts; and what the beginning that it continues says of the start.
 use Rattle.std.proofs.Common.{◌≡◌, ◌⊎◌, ◌≤◌, ◌∙◌, ◌++◌, ℕ, Bool, true, false, inl, inr, List, if◌then◌else◌, refl, sym, ap, subst, append_assoc, arith}
 use Rattle.std.specs.Prelude.{Option, Some, None, Ok, Err, Result, MatchOption, nat_le, ⊤}
 use Rattle.std.specs.List.{list_any}
@@ -49,21 +49,21 @@ use Rattle.commands.proofs.SaysLemmas.{rises-before}
 
 -- ---- the beginning
 
--- the auction that stands behind what was kept
+-- The auction in the state after the kept steps.
 pub stands-behind : (inputs : Inputs) (kept : Prefix) (auction : AuctionView) → not_kept inputs.scenario inputs.book kept ≡ None → StandsBehind inputs kept auction → IsResumption inputs (begun_by inputs (Ok kept)) (Ok auction)
 stands-behind inputs kept auction none behind = (kept, ap (λ o. kept_or o kept) none, behind)
 
--- the first kept step that isn't shown
+-- The first kept step that is not shown.
 pub not-behind : (inputs : Inputs) (kept : Prefix) (step : ℕ) (why : ShownWhy) → not_kept inputs.scenario inputs.book kept ≡ Some (record { step = step; why = why }) → IsResumption inputs (begun_by inputs (Ok kept)) (Err (Fault (Unshown step why)))
 not-behind inputs kept step why is = ap (λ o. kept_or o kept) is
 
--- what was made of what was read is what is made of the text
+-- The result for what was read is the result for the text.
 pub read-begun : (inputs : Inputs) (text : List ℕ) (kept : Prefix) (result : Result AuctionView Denied) → prefix_of inputs.scenario inputs.book text ≡ Ok kept →
     IsResumption inputs (begun_by inputs (Ok kept)) result → IsResumption inputs (begun inputs text) result
 unfolding begun
 read-begun inputs text kept result is h = subst (λ o. IsResumption inputs (begun_by inputs o) result) (sym is) h
 
--- a text that was not read
+-- A text that was not read.
 pub unread-begun : (inputs : Inputs) (text : List ℕ) (why : TextErr) → Fails why (prefix_of inputs.scenario inputs.book text) → IsResumption inputs (begun inputs text) (Err (not_read why))
 unfolding begun
 unread-begun inputs text Version is = ap (begun_by inputs) is
@@ -71,9 +71,9 @@ unread-begun inputs text (BadLine n) is = ap (begun_by inputs) is
 unread-begun inputs text Truncated is = ap (begun_by inputs) is
 unread-begun inputs text NoRoom is = tt
 
--- ---- the ends before an auction goes on
+-- ---- the endings before an auction continues
 
--- the end where the beginning was not loaded
+-- The ending of a beginning that was not loaded.
 pub prefix-unloaded : (names : ResumeNames) (before after : Outside) (status : ℕ) (found : Option Record) (inputs : Inputs) (why : LoadErr) (told : Option (List StoredFile)) (steady : Bool) (faults come : ℕ) →
     AreInputsOf names.run_files.inputs before inputs → told ≡ before.files → steady ≡ before.steady → before.faults ≤ faults →
     IsTextRead inputs told steady faults after.faults come names.prefix (Err why) →
@@ -86,7 +86,7 @@ prefix-unloaded names before after status found inputs TooLong told steady fault
 prefix-unloaded names before after status found inputs NoLoad told steady faults come are is same kept h e none files =
     ResumeStarved (record { status_is = e.0; found_is = none; line = e.1; files = files })
 
--- the end where no auction goes on from it
+-- The ending of a beginning that no auction continues.
 pub not-begun : (names : ResumeNames) (before after : Outside) (status : ℕ) (found : Option Record) (inputs : Inputs) (text : List ℕ) (why : Denied) →
     AreInputsOf names.run_files.inputs before inputs → CanBeNamed inputs → IsTextHeld (begun_names names) before text → IsResumption inputs (begun inputs text) (Err why) →
     ExplainsDenied names.prefix why before.held after.held before.cuts after.cuts status →
@@ -95,13 +95,13 @@ not-begun names before after status found inputs text (Fault fault) are can held
 not-begun names before after status found inputs text NoMemory are can held is e none files =
     ResumeStarved (record { status_is = e.0; found_is = none; line = e.1; files = files })
 
--- ---- the auction that goes on
+-- ---- the auction that continues
 
 start-kept : (o : Option Shown) (rec : Record) → ((shown : Shown) → o ≡ Some shown → rec.start ≡ shown) → MatchOption o ⊤ (λ shown. rec.start ≡ shown)
 start-kept None rec h = tt
 start-kept (Some shown) rec h = h shown refl
 
--- a record that goes on from where the auction stood goes on from what was kept
+-- A record that continues the auction continues what was kept.
 pub goes-from : (inputs : Inputs) (kept : Prefix) (auction : AuctionView) (rec : Record) → IsAuction inputs.scenario inputs.book → StandsBehind inputs kept auction → GoesOnIn auction.state rec → GoesOnFrom kept rec
 goes-from inputs kept auction rec a behind goes =
     let sc = inputs.scenario in
@@ -119,7 +119,7 @@ goes-from inputs kept auction rec a behind goes =
       own = list_any-append outside_step g.more h.more ∙ or_from (list_any outside_step g.more) (list_any outside_step h.more) g.own h.own;
     }
 
--- the end where the auction goes on
+-- The ending of an auction that continues.
 pub went-on : (names : ResumeNames) (before between after : Outside) (status : ℕ) (found : Option Record) (inputs : Inputs) (auction : AuctionView) (rec : Record) →
     IsResumable names before inputs auction → between ≡ before → ((kept : Prefix) → StandsBehind inputs kept auction → GoesOnFrom kept rec) →
     IsStarved between after status found ⊎ Concludes rec.order names.run_files inputs rec between after status found → ResumeEnds names before after status found
@@ -130,9 +130,9 @@ went-on names before between after status found inputs auction rec r same goes (
     (subst (λ (b : Outside). Concludes (order_kept r.kept) names.run_files inputs rec b after status found) same
     (subst (λ o. Concludes o names.run_files inputs rec between after status found) from.order c))
 
--- ---- what a beginning says of the start
+-- ---- the start of a beginning
 
--- what is kept has no fault
+-- What is kept is valid.
 none-of-kept : (o : Option NotShown) (own kept : Prefix) → kept_or o own ≡ Ok kept → (o ≡ None) × (own ≡ kept)
 none-of-kept None own kept e = (refl, cc)
 none-of-kept (Some first) own kept e = cc
@@ -147,7 +147,7 @@ pub begun-none : (inputs : Inputs) (text : List ℕ) (kept : Prefix) → begun i
 unfolding begun
 begun-none inputs text kept e = kept-read inputs (prefix_of inputs.scenario inputs.book text) kept e
 
--- a start that is kept fits
+-- A start that is kept fits.
 start-fits : (sc : Scenario) (book : BookView) (shown : Shown) → start_fault sc book shown ≡ None → ending_of shown ≡ Done
 start-fits sc book Empty none = refl
 start-fits sc book (Fits delta) none = refl
@@ -157,7 +157,7 @@ start-fits sc book (Refuted w how) none = cc
 start-fits sc book (ByProof proof) none = cc
 start-fits sc book (Undecided xs) none = cc
 
--- where no fault is found up to some step, the start has none
+-- If the steps up to some step are valid, the start is.
 no-start-fault : (o : Option Place) (rest : Option NotShown) (ended : Bool) (n : ℕ) → (if ended then step_fault_or 0 o rest else within_steps n (step_fault_or 0 o rest)) ≡ None → o ≡ None
 no-start-fault None rest ended n e = refl
 no-start-fault (Some place) rest true n e = cc
@@ -173,7 +173,7 @@ kept-start sc book kept (Some own) shown is none e =
     let fault : started_fault sc book kept.ended (kept_as kept own) ≡ None = rw is at none in
     subst (λ s. ending_of s ≡ Done) same (start-fits sc book own (no-start-fault (start_fault sc book own) _ kept.ended _ fault))
 
--- an auction that ended at its start was not kept with a verdict on it
+-- If the auction ended at its start, the beginning that it continued has no start.
 pub no-verdict : (inputs : Inputs) (text : List ℕ) (kept : Prefix) (rec : Record) (order : Order) (ending : Ending) → begun inputs text ≡ Ok kept → GoesOnFrom kept rec → IsBacked inputs.scenario inputs.book order rec → rec.ending ≡ ending → (ending ≡ Done → ⊥) →
     kept.start ≡ None
 no-verdict inputs text kept rec order ending is goes backed ends other = by kept.start refl goes.start

@@ -13,13 +13,13 @@ use Rattle.command_words.specs.Words.{RunNames}
 use Rattle.commands.proofs.DeliveryLemmas.{IsSince, delivers-since}
 use Rattle.commands.proofs.EndLemmas.{ended-order}
 
--- memory ran out behind the reading
+-- Memory ran out after the reading.
 pub starved-since : (before between after : Outside) (status : ℕ) (found : Option Record) → IsSince before between → IsStarved between after status found → IsStarved before after status found
 starved-since before between after status found s h =
     let said = h.line in
     record { status_is = h.status_is; found_is = h.found_is; line = rw (s.held, s.cuts) at said; files = h.files ∙ s.files }
 
--- the auction concludes behind the reading
+-- The auction concludes after the reading.
 pub concludes-since : (order : Order) (names : RunNames) (inputs : Inputs) (rec : Record) (before between after : Outside) (status : ℕ) (found : Option Record) → IsSince before between →
     Concludes order names inputs rec between after status found → Concludes order names inputs rec before after status found
 concludes-since order names inputs rec before between after status found s (Unfit of six kept said same) = Unfit of six kept (rw (s.held, s.cuts) at said) (same ∙ s.files)

@@ -1,4 +1,4 @@
--- What may be relied on of `run` where its auction was carried through.
+-- The promises of `run` for a finished auction.
 use Rattle.std.proofs.Common.{◌≡◌, ◌≢◌, ◌⊎◌, ◌≤◌, ◌∙◌, ℕ, true, false, inl, inr, List, [], ◌∷◌, length, refl, sym, ap, subst, arith, Option, Some, None}
 use Rattle.std.specs.Prelude.{Ok, IsSome, IsTrue, MatchOption, is_some, ⊤}
 use Rattle.std.proofs.lemmas.Bool.{true≢false}
@@ -37,15 +37,15 @@ use Rattle.commands.proofs.ReadAgain.{record-verified}
 use Rattle.commands.proofs.ReadingLemmas.{accepted-ascend, accepted-values}
 use Rattle.commands.proofs.Statuses.{apart-lists, done-within, none-open, off, one-of, within}
 
--- where there is no record, nothing is asked of it
+-- Without a record, nothing is claimed of it.
 pub absent : (found : Option Record) → found ≡ None → MatchOption found ⊤ IsSomeRecord
 absent found none = rw none tt
 
--- the record of a run is backed in its own order
+-- The record of a run is backed in its own order.
 in-own-order : (order : Order) (inputs : Inputs) (rec : Record) → IsRecordIn order inputs rec → IsBacked inputs.scenario inputs.book rec.order rec
 in-own-order order inputs rec of = let backed = of.backed in subst (λ o. IsBacked inputs.scenario inputs.book o rec) (sym backed.order_is) backed
 
--- what is said of a record that is backed in some order
+-- What holds of a record that is backed in some order.
 pub some-record : (order : Order) (inputs : Inputs) (rec : Record) → IsBacked inputs.scenario inputs.book order rec →
     (rec.ending ≡ Done → IsPacking inputs.book (on_air_set inputs.scenario (outcome order inputs (undecided_of rec.steps))) rec.map) → IsSomeRecord rec
 some-record order inputs rec backed packing = record {
@@ -54,11 +54,11 @@ some-record order inputs rec backed packing = record {
   packing = λ done. subst (λ o. IsPacking inputs.book (on_air_set inputs.scenario (outcome o inputs (undecided_of rec.steps))) rec.map) (sym backed.order_is) (packing done);
 }
 
--- what stands under the name of the result
+-- The bytes under the name of the result.
 first-held : (order : Order) (old new : List StoredFile) (names : RunNames) (inputs : Inputs) (rec : Record) → AreStored old new (auction_texts order names inputs rec) → bytes_of new names.result ≡ Some (result_of order inputs (undecided_of rec.steps))
 first-held order old new names inputs rec st = st.hold 0 (named [] []) (omega arith)
 
--- where there is a record, each output has a name of its own
+-- Whether each output has a name of its own, if there is a record.
 abbrev pub IsOnce : RunNames → Option Record → Type 0
 IsOnce names found = (found ≡ None) ⊎ HaveOwnNames names
 
@@ -71,7 +71,7 @@ ended-statuses xs summary U before after status (NotSaid is all rises less said)
 ended-statuses xs summary U before after status (NotStored x is part rises unsteady said) = one-of (0 ∷ 1 ∷ 4 ∷ 8 ∷ []) status 4 is refl
 ended-statuses xs summary U before after status (OutOfRoom x is part said) = one-of (0 ∷ 1 ∷ 4 ∷ 8 ∷ []) status 8 is refl
 
--- a run that was carried through, and what its delivery left
+-- A run whose auction was finished, and the state after its delivery.
 record IsCarried (order : Order) (names : RunNames) (before after : Outside) (status : ℕ) (found : Option Record) : Type 0 where
   pub inputs : Inputs
   pub rec : Record
@@ -82,12 +82,12 @@ record IsCarried (order : Order) (names : RunNames) (before after : Outside) (st
   pub recorded : found ≡ Some rec
   pub ended : Ended (auction_texts order names inputs rec) (summary_in order inputs (undecided_of rec.steps)) (done_status (undecided_of rec.steps)) before after status
 
--- an auction that was carried through and told ends at 0 or 1
+-- A finished auction that was reported ends at 0 or 1.
 pub never : (U : List ClockTest) (status n : ℕ) → status ≡ done_status U → status ≡ n → is_in (0 ∷ 1 ∷ []) n ≡ false → ⊥
 never U status n is at out = off (0 ∷ 1 ∷ []) status n (subst (λ z. IsTrue (is_in (0 ∷ 1 ∷ []) z)) (sym is) (done-within U)) at out
 
--- How far a run came: its inputs were not read, or memory ran out before anything was stored; its auction ended at its start;
--- or it was carried through.
+-- How far a run came: its inputs were not read, or memory ran out before any store; its auction ended at its start or
+-- was finished.
 data Came (order : Order) (names : RunNames) (before after : Outside) (status : ℕ) (found : Option Record) : Type 0 where
   Nowhere : IsTrue (is_in (3 ∷ 5 ∷ 8 ∷ []) status) → found ≡ None → after.files ≡ before.files → Came order names before after status found
   ToStart : IsTrue (is_in (6 ∷ 7 ∷ []) status) → MatchOption found ⊤ IsSomeRecord → after.files ≡ before.files → Came order names before after status found
@@ -115,7 +115,7 @@ module _ (order : Order) (names : RunNames) (before after : Outside) (status : �
   carried-statuses : IsCarried order names before after status found → IsTrue (is_in (0 ∷ 1 ∷ 4 ∷ 8 ∷ []) status)
   carried-statuses c = ended-statuses (auction_texts order names c.inputs c.rec) _ (undecided_of c.rec.steps) before after status c.ended
 
-  -- at these statuses the auction was carried through
+  -- At these statuses the auction was finished.
   carried : RunEnds order names before after status found → IsTrue (is_in (0 ∷ 1 ∷ 4 ∷ []) status) → IsCarried order names before after status found
   carried end h = go (came end)
     where
@@ -134,7 +134,7 @@ module _ (order : Order) (names : RunNames) (before after : Outside) (status : �
   apart : (c : IsCarried order names before after status found) → IsOnce names found → AreApart (auction_texts order names c.inputs c.rec)
   apart c once = own c once (result_of order c.inputs (undecided_of c.rec.steps)) (channels_text c.rec.map) (transcript_text c.inputs.scenario c.inputs.book c.rec)
 
-  -- ---- what was stored and said
+  -- ---- what was stored and printed
 
   part-stored : (files : List StoredFile) (c : IsCarried order names before after status found) → before.files ≡ Some files → (x : NamedText) → IsPart files (auction_texts order names c.inputs c.rec) x after → IsPartStored order files names after found
   part-stored files c told x p = record {
@@ -290,7 +290,7 @@ module _ (order : Order) (names : RunNames) (before after : Outside) (status : �
       go (NotStored x is part rises unsteady said) = inl rises
       go (OutOfRoom x eight part said) = absurd (omega arith)
 
-  -- files that stand
+  -- Files that are unchanged.
   stand : (files : List StoredFile) → before.files ≡ Some files → after.files ≡ before.files → MatchOption after.files ⊥ (λ new. AllOthersStand files new (output_names names))
   stand files told same = rw (same ∙ told) (λ other ne. refl)
 

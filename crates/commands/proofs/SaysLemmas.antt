@@ -9,7 +9,7 @@ use Rattle.outside_io.specs.Loads.{Writes}
 use Rattle.outside_io.specs.declared.sink.Failed.{Failed}
 use Rattle.commands.specs.Says.{Says}
 
--- a first part of a text is one of the text with more behind it
+-- The first bytes of a text are the first bytes of a longer one.
 first_part : (n : ℕ) (t u : List ℕ) → (m : ℕ) × (take m (t ++ u) ≡ take n t)
 first_part n t u = elim (cases_lt n (length t)) [
   | inl within ↦ (n, take-append-le n t u (omega arith))
@@ -19,7 +19,7 @@ first_part n t u = elim (cases_lt n (length t)) [
 pub rises-before : (a b c : ℕ) → a ≤ b → HasRisen b c → HasRisen a c
 rises-before a b c h k = omega arith
 
--- a write that fails is a failed one of its bytes and of what was to come
+-- A write that fails is a failed write of its bytes and of those that were to follow.
 pub writes-cut : (old new : Option (List ℕ)) (t u : List ℕ) (e f : Failed) → Writes old new t (Err e) → Writes old new (t ++ u) (Err f)
 writes-cut None None t u e f w = tt
 writes-cut None (Some new) t u e f w = w
@@ -28,7 +28,7 @@ writes-cut (Some old) (Some new) t u e f w =
     let (m, same) = first_part w.0 t u in
     (m, w.1 ∙ ap (λ z. old ++ z) (sym same))
 
--- a write that doesn't fail, and one behind it, are one of both texts
+-- A successful write and one after it are a write of both texts.
 pub writes-then : (a b c : Option (List ℕ)) (t u : List ℕ) (x : Unit {0}) (r : Result (Unit {0}) Failed) → Writes a b t (Ok x) → Writes b c u r → Writes a c (t ++ u) r
 writes-then None None None t u x r w s = tt
 writes-then None None (Some c) t u x r w s = s
@@ -39,7 +39,7 @@ writes-then (Some a) (Some b) (Some c) t u x (Ok y) w s = s ∙ (ap (λ z. z ++ 
 writes-then (Some a) (Some b) (Some c) t u x (Err e) w s =
     (length t + s.0, s.1 ∙ (ap (λ z. z ++ take s.0 u) w ∙ (append_assoc a t (take s.0 u) ∙ ap (λ z. a ++ z) (sym (take-append-add t u s.0)))))
 
--- one write says its bytes
+-- One write prints its bytes.
 pub says-write : (old new : Option (List ℕ)) (before now : ℕ) (bytes : List ℕ) (r : Result (Unit {0}) Failed) → Writes old new bytes r → OnErr r (HasRisen before now) → Says old new before now bytes
 says-write None None before now bytes r w f = tt
 says-write None (Some new) before now bytes r w f = w

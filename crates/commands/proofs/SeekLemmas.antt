@@ -1,4 +1,4 @@
--- What may be relied on of `seek` follows from how it ends.
+-- The promises of `seek` follow from how it ends.
 use Rattle.std.proofs.Common.{◌≡◌, ◌≢◌, ◌⊎◌, ◌<◌, ◌≤◌, ◌-◌, ◌∙◌, if◌then◌else◌, ℕ, Bool, true, false, inl, inr, List, [], ◌∷◌, length, refl, sym, ap, subst, arith, Option, Some, None}
 use Rattle.std.specs.Prelude.{Err, IsFalse, IsTrue, MatchOption, Ok, Result, find, option_map, ⊤}
 use Rattle.std.proofs.lemmas.Bool.{true≢false}
@@ -57,7 +57,7 @@ use Rattle.target_seek.proofs.AboveLemmas.{fits-above}
 
 -- ---- what is read
 
--- a joined book is of a scenario none of whose stations lacks a row
+-- A joined book is of a scenario whose stations all have a row.
 pub joined-book : (s : Sources) (book : BookView) → joined s.scenario s.domains s.pairs.list ≡ Ok book →
     (first_missing (facilities s.scenario) s.domains ≡ None) × (book ≡ cut_book s.scenario.top (facilities s.scenario) s.domains s.pairs.list)
 unfolding joined
@@ -69,7 +69,7 @@ joined-book s book e =
     go cut None is k = let same : book ≡ cut = cc in (is, same)
     go cut (Some n) is k = cc
 
--- the inputs that these make
+-- The inputs that these sources make.
 whole_of : Sources → Inputs
 whole_of s = record {
   scenario = s.scenario;
@@ -90,7 +90,7 @@ inputs-whole s inputs e = go (joined s.scenario s.domains s.pairs.list) refl e
     go (Err (MissingDomain n)) is k = cc
     go (Err NoSpace) is k = cc
 
--- what is sought was read as inputs
+-- Sources that were read for a search were read as inputs.
 sought-inputs : (files : List StoredFile) (names : SeekNames) (sources : Sources) → seekable_of files (seek_inputs names) ≡ Ok sources → inputs_of files (seek_inputs names) ≡ Ok (whole_of sources)
 unfolding inputs_of
 sought-inputs files names sources e =
@@ -101,7 +101,7 @@ sought-inputs files names sources e =
     ∙ (ap (λ r. and_then r (with_said files None)) held
     ∙ ap Ok (inputs-whole s inputs held ∙ ap whole_of own))
 
--- what stops the search stops the reading of the inputs
+-- What stops the search stops the reading of the inputs.
 stop-inputs : (files : List StoredFile) (names : SeekNames) (stop : Stop) → seekable_of files (seek_inputs names) ≡ Err stop → inputs_of files (seek_inputs names) ≡ Err stop
 unfolding inputs_of
 stop-inputs files names stop e = go (sources_of files (seek_inputs names)) e
@@ -123,7 +123,7 @@ stop-agrees files names own steady stop same h = by stop (subst (λ n. Agrees {A
     by (Refused why) k = stop-inputs files names (Refused why) k
     by NoMemory k = tt
 
--- and its count of faults is that of the reading
+-- Its fault count is that of the reading.
 pub stop-counts : (before now : ℕ) (stop : Stop) → CountsFault {A = Sources} before now (Err stop) → CountsFault {A = Inputs} before now (Err stop)
 stop-counts before now stop h = record { kept = h.kept; rises = by stop h.rises }
   where
@@ -132,14 +132,14 @@ stop-counts before now stop h = record { kept = h.kept; rises = by stop h.rises 
     by (Refused why) rises = rises
     by NoMemory rises = rises
 
--- what was read, as the reading gives it
+-- What was read, as the reading returns it.
 abbrev accepted : Sources → Result Sources Stop
 accepted s = Ok s
 
--- ---- where nobody starts on air, and how a start is shown not to fit
+-- ---- no station starts on air; certificates of an unfit start
 
 module _ (base : SeekBase) (can : IsSeekable base) (none : start_set base.scenario ≡ []) where
-  -- nobody does up to any top channel
+  -- No station starts on air up to any top channel.
   nobody-starts : (top : ℕ) → start_set (start_only base.scenario top) ≡ []
   nobody-starts top = let limits : IsWithinLimits base.scenario = can.limits in only-starts base.scenario top limits.ascend ∙ none
 
@@ -152,7 +152,7 @@ module _ (base : SeekBase) (can : IsSeekable base) (none : start_set base.scenar
   nobody-open : (top : ℕ) (rec : Record) → IsOpenRecordOf (inputs_at base top) rec → ⊥
   nobody-open top rec of = open-some (start_only base.scenario top) (book_at base top) run_order rec of.backed of.ending (nobody-starts top)
 
-  -- so what is found is 14, and the test of no lesser one is open
+  -- So the result is 14, and no test of a lesser top is undecided.
   nobody-least : (x : LeastTop) → IsLeastTop base x → (x.top ≡ 14) × (x.is_open ≡ false)
   nobody-least x least = go x.is_open x.below least.lower
     where
@@ -162,13 +162,13 @@ module _ (base : SeekBase) (can : IsSeekable base) (none : start_set base.scenar
       go true None h = absurd h
       go true (Some rec) h = absurd (nobody-open (x.top - 1) rec h.1)
 
--- a start isn't shown by a proof from outside
+-- A start is never settled by a proof from outside.
 no-outside : (b : Bool) (lacking : Option ℕ) (proof : OutsideProof) → MatchOption (if b then Some Empty else option_map NoChannel lacking) ⊥ (λ unasked. ByProof proof ≡ unasked) → ⊥
 no-outside true lacking proof h = cc
 no-outside false None proof h = h
 no-outside false (Some s) proof h = cc
 
--- a start set that doesn't fit is shown so by a station without a channel or a refutation
+-- The certificate of an unfit start set is a station without a channel, or a refutation.
 unfit-start : (sc : Scenario) (book : BookView) (rec : Record) → IsBacked sc book run_order rec → rec.ending ≡ StartRefuted → shows_unfit rec.start ≡ true
 unfit-start sc book rec of ending = go rec.start of.start (sym of.ending ∙ ending)
   where
@@ -181,7 +181,7 @@ unfit-start sc book rec of ending = go rec.start of.start (sym of.ending ∙ end
     go (ByProof proof) is h = absurd (no-outside (is_empty (start_set sc)) (find (λ s. is_empty (domain_of book s)) (start_set sc)) proof is)
     go (Undecided receipts) is h = cc
 
--- of what was found, where no test was left open
+-- The certificate for the top below, if no test was undecided.
 shown-below : (base : SeekBase) (x : LeastTop) → IsLeastTop base x → x.is_open ≡ false → MatchOption x.below (x.top ≡ 14) (λ rec. (14 < x.top) × IsTrue (shows_unfit rec.start))
 shown-below base x least shut = go x.below (subst (λ b. IsOneBelow base x.top b x.below) shut least.lower)
   where
@@ -191,16 +191,18 @@ shown-below base x least shut = go x.below (subst (λ b. IsOneBelow base x.top b
 
 -- ---- a top channel that was found
 
--- a text has its own name
+-- A single text has a name of its own.
 single : (x : NamedText) → AreApart (x ∷ [])
 single x = (All-nil (λ name. x.name ≢ name), tt)
 
--- what may be said of it
+-- What holds if a top channel was found.
 record IsReached (names : SeekNames) (before after : Outside) (status : ℕ) (found below : Option Record) : Type 0 where
   pub of : IsTopOf names before found below
   pub delivered : Delivers (seek_texts names of.x.rec) (top_text of.x.top of.x.is_open) (top_status of.x.is_open) before after status
 
--- How far a search came: its inputs were not read, or memory ran out; it ended at the scenario's own top channel; or one was found.
+-- How far a search came: inputs were not read, or memory ran out; it ended at the scenario's own top channel; or one
+-- was found.
+--
 data Came (names : SeekNames) (before after : Outside) (status : ℕ) (found below : Option Record) : Type 0 where
   Nowhere : IsTrue (is_in (3 ∷ 5 ∷ 8 ∷ []) status) → found ≡ None → below ≡ None → after.files ≡ before.files → Came names before after status found below
   ToTop : IsTrue (is_in (6 ∷ 7 ∷ []) status) → MatchOption found ⊤ IsSomeRecord → below ≡ None → after.files ≡ before.files → Came names before after status found below
@@ -213,7 +215,7 @@ top-within false = refl
 never : (b : Bool) (status n : ℕ) → status ≡ top_status b → status ≡ n → is_in (0 ∷ 1 ∷ []) n ≡ false → ⊥
 never b status n is at out = off (0 ∷ 1 ∷ []) status n (subst (λ z. IsTrue (is_in (0 ∷ 1 ∷ []) z)) (sym is) (top-within b)) at out
 
--- the status tells whether the test of one channel less was left open
+-- The status says whether the test of one channel less is undecided.
 closed : (b : Bool) → top_status b ≡ 0 → b ≡ false
 closed true h = absurd (omega arith)
 closed false h = refl
@@ -248,7 +250,7 @@ module _ (names : SeekNames) (before after : Outside) (status : ℕ) (found belo
     delivered = d;
   })
 
-  -- what its delivery left
+  -- The state after its delivery.
   ended : (r : IsReached names before after status found below) → Ended (seek_texts names r.of.x.rec) (top_text r.of.x.top r.of.x.is_open) (top_status r.of.x.is_open) before after status
   ended r = ended-of (seek_texts names r.of.x.rec) (top_text r.of.x.top r.of.x.is_open) (top_status r.of.x.is_open) before after status r.delivered
 
@@ -261,7 +263,7 @@ module _ (names : SeekNames) (before after : Outside) (status : ℕ) (found belo
       go b (NotStored x is part rises unsteady said) = one-of (0 ∷ 1 ∷ 4 ∷ 8 ∷ []) status 4 is refl
       go b (OutOfRoom x is part said) = one-of (0 ∷ 1 ∷ 4 ∷ 8 ∷ []) status 8 is refl
 
-  -- at these statuses one was found
+  -- At these statuses a top was found.
   reached : SeekEnds names before after status found below → IsTrue (is_in (0 ∷ 1 ∷ 4 ∷ []) status) → IsReached names before after status found below
   reached end h = go (came end)
     where
@@ -322,7 +324,7 @@ module _ (names : SeekNames) (before after : Outside) (status : ℕ) (found belo
       go (ToTop s some alone same) = alone
       go (Reached r) = absurd (apart-lists (3 ∷ 5 ∷ 6 ∷ 7 ∷ []) (0 ∷ 1 ∷ 4 ∷ 8 ∷ []) status refl h (reached-statuses r))
 
-  -- ---- the ways to end
+  -- ---- the endings
 
   on : IsReached names before after status found below → IsTrue (is_in (0 ∷ 1 ∷ 4 ∷ 6 ∷ 7 ∷ 8 ∷ []) status)
   on r = within (0 ∷ 1 ∷ 4 ∷ 8 ∷ []) (0 ∷ 1 ∷ 4 ∷ 6 ∷ 7 ∷ 8 ∷ []) status refl (reached-statuses r)
@@ -445,7 +447,7 @@ module _ (names : SeekNames) (before after : Outside) (status : ℕ) (found belo
       go (NotStored x four part rises unsteady said) = absurd (off (0 ∷ 1 ∷ []) status 4 h four refl)
       go (OutOfRoom x eight part said) = absurd (off (0 ∷ 1 ∷ []) status 8 h eight refl)
 
-  -- files that stand
+  -- Files that are unchanged.
   stand : (files : List StoredFile) → before.files ≡ Some files → after.files ≡ before.files → MatchOption after.files ⊥ (λ new. AllOthersStand files new (names.channels ∷ []))
   stand files told same = rw (same ∙ told) (λ other ne. refl)
 
@@ -504,14 +506,14 @@ module _ (names : SeekNames) (before after : Outside) (status : ℕ) (found belo
   }
   seek-open (TopFound sources x are can least is lower d) seven = absurd (off (0 ∷ 1 ∷ 4 ∷ 8 ∷ []) status 7 (reached-statuses (record { of = top-of sources x are can least is lower; delivered = d })) seven refl)
 
-  -- what is sought is what the files hold
+  -- The sources of the search are what the files hold.
   same-sources : (files : List StoredFile) (own sources : Sources) → AreSought names before own → before.files ≡ Some files → seekable_of files (seek_inputs names) ≡ Ok sources → own ≡ sources
   same-sources files own sources are told is = same own sources (sym (are files told) ∙ is)
     where
       same : (a b : Sources) → accepted a ≡ accepted b → a ≡ b
       same a b e = cc
 
-  -- what fits up to a lesser top channel fits up to the scenario's own
+  -- What fits up to a lesser top channel fits up to the scenario's own.
   fits-own : (sources : Sources) (x : LeastTop) → IsSeekable (base_of sources) → IsLeastTop (base_of sources) x → fits_at (base_of sources) sources.scenario.top ≡ true
   fits-own sources x can least = let of = least.auction in fits-above (base_of sources) x.top sources.scenario.top (starts-fit (base_of sources) x.top true can of.starts) least.most
 
@@ -544,7 +546,7 @@ module _ (names : SeekNames) (before after : Outside) (status : ℕ) (found belo
       by (NotStored y four part rises unsteady said) = inr (one-of (1 ∷ 4 ∷ 7 ∷ []) status 4 four refl)
       by (OutOfRoom y eight part said) = inl (inr (inl eight))
 
-  -- where nobody starts on air
+  -- No station starts on air.
   seek-nobody : (files : List StoredFile) (sources : Sources) → SeekEnds names before after status found below → before.files ≡ Some files → seekable_of files (seek_inputs names) ≡ Ok sources →
       start_set sources.scenario ≡ [] → IsOr 0 before status ⊎ (status ≡ 4)
   seek-nobody files sources (SeekStopped s none alone) told is nobody = inl (halted-held (seek_inputs names) before after status 0 files (whole_of sources) s told (sought-inputs files names sources is))
@@ -572,7 +574,7 @@ module _ (names : SeekNames) (before after : Outside) (status : ℕ) (found belo
       let found = nobody-least (base_of of.sources) of.seekable (ap (λ (z : Sources). start_set z.scenario) one ∙ nobody) of.x of.least in
       subst (λ top. Writes before.held after.held (top_text top false) (Ok tt)) found.0 writes
 
-  -- where memory ran out
+  -- Memory ran out.
   seek-starved : SeekEnds names before after status found below → status ≡ 8 → ((found ≡ None) × (below ≡ None)) ⊎ IsTopOf names before found below
   seek-starved end eight = go (came end)
     where

@@ -1,4 +1,4 @@
--- What may be relied on of `run` where it ends early: at its inputs, at its start, or for want of memory.
+-- The promises of `run` for an early end: at its inputs, at its start, or out of memory.
 use Rattle.std.proofs.Common.{◌≡◌, ◌⊎◌, ◌∙◌, ℕ, true, false, inl, inr, List, [], ◌∷◌, refl, sym, ap, subst, arith, Option, Some}
 use Rattle.std.specs.Prelude.{Ok, IsTrue}
 use Rattle.std.proofs.lemmas.Bool.{true≢false}
@@ -34,12 +34,12 @@ use Rattle.commands.proofs.Halts.Reading.{Halted, Short, Went}
 use Rattle.commands.proofs.RunLemmas.{ended-statuses, never}
 use Rattle.commands.proofs.Statuses.{either-done, not-in, off, one-of, within}
 
--- a set of no station fits
+-- A set of no station fits.
 pub nobody-fits : (book : BookView) (set : List ℕ) → set ≡ [] → fits book set ≡ true
 nobody-fits book set none = rw none (fits-from book [] (record { entries = []; stations = refl; clean = record { on_domain = λ x l. absurd (Contains-nil x l); apart = λ x y l m. absurd (Contains-nil x l) } }))
 
 module _ (order : Order) (names : RunNames) (before after : Outside) (status : ℕ) (found : Option Record) where
-  -- what a delivery may end at
+  -- The statuses at which a delivery may end.
   pub at-end : (inputs : Inputs) (rec : Record) → Delivers (auction_texts order names inputs rec) (summary_in order inputs (undecided_of rec.steps)) (done_status (undecided_of rec.steps)) before after status → IsTrue (is_in (0 ∷ 1 ∷ 4 ∷ 8 ∷ []) status)
   at-end inputs rec d = ended-statuses (auction_texts order names inputs rec) _ (undecided_of rec.steps) before after status (ended-of _ _ _ before after status d)
 

@@ -1,4 +1,4 @@
--- Statuses, and lists of them.
+-- Exit statuses, and lists of them.
 use Rattle.std.proofs.Common.{◌≡◌, ◌⊎◌, ◌∙◌, ℕ, true, false, not, inl, inr, List, [], ◌∷◌, refl, sym, subst}
 use Rattle.std.specs.Prelude.{IsTrue}
 use Rattle.std.specs.List.{list_all}
@@ -8,24 +8,24 @@ use Rattle.pack_defs.specs.ClockRule.{ClockTest}
 use Rattle.pack_defs.proofs.Members.{is_in-gives, list_all-gives}
 use Rattle.commands.specs.Records.{done_status}
 
--- a status is one of a list, and no other
+-- A status that equals a member of a list is in the list.
 pub one-of : (xs : List ℕ) (status n : ℕ) → status ≡ n → IsTrue (is_in xs n) → IsTrue (is_in xs status)
 one-of xs status n is h = subst (λ z. IsTrue (is_in xs z)) (sym is) h
 
 pub off : (xs : List ℕ) (status n : ℕ) → IsTrue (is_in xs status) → status ≡ n → is_in xs n ≡ false → ⊥
 off xs status n h is out = false≢true (sym out ∙ subst (λ z. is_in xs z ≡ true) is h)
 
--- two lists of statuses have none in common
+-- Two lists of statuses have none in common.
 pub apart-lists : (xs ys : List ℕ) (status : ℕ) → list_all (λ x. not (is_in ys x)) xs ≡ true → IsTrue (is_in xs status) → IsTrue (is_in ys status) → ⊥
 apart-lists xs ys status apart h k =
     let out = list_all-gives (λ x. not (is_in ys x)) xs status apart (is_in-gives xs status h) in
     false≢true (sym (not-true (is_in ys status) out) ∙ k)
 
--- a status of the one list isn't one of the other
+-- A status of the one list is not in the other.
 pub not-in : (xs ys : List ℕ) (status : ℕ) → list_all (λ x. not (is_in ys x)) xs ≡ true → IsTrue (is_in xs status) → is_in ys status ≡ false
 not-in xs ys status apart h = false_from_ne_true (is_in ys status) (λ k. apart-lists xs ys status apart h k)
 
--- no status but 0 where no test is left open
+-- Status 0 means that no test is undecided.
 pub none-open : (U : List ClockTest) → done_status U ≡ 0 → U ≡ []
 none-open [] h = refl
 none-open (t ∷ ts) h = cc
@@ -34,11 +34,11 @@ pub either-done : (U : List ClockTest) (status : ℕ) → status ≡ done_status
 either-done [] status h = inl h
 either-done (t ∷ ts) status h = inr h
 
--- of two lists of statuses, the first within the second
+-- The first list of statuses is within the second.
 pub within : (xs ys : List ℕ) (status : ℕ) → list_all (is_in ys) xs ≡ true → IsTrue (is_in xs status) → IsTrue (is_in ys status)
 within xs ys status all h = list_all-gives (is_in ys) xs status all (is_in-gives xs status h)
 
--- the status of an auction that was carried through
+-- The status of a finished auction.
 pub done-within : (U : List ClockTest) → IsTrue (is_in (0 ∷ 1 ∷ []) (done_status U))
 done-within [] = refl
 done-within (t ∷ ts) = refl

@@ -1,4 +1,4 @@
--- A transcript's file, read piece by piece: the reader has read what was handed out.
+-- A transcript's file is read piece by piece: the reader has read exactly the pieces.
 use Rattle.std.proofs.Common.{◌≡◌, ◌≢◌, ◌∙◌, ◌≤◌, ◌<◌, ◌+◌, ◌++◌, [], ◌∷◌, ℕ, suc, Bool, true, List, length, take, drop, refl, sym, ap, subst, arith}
 use Rattle.std.proofs.lemmas.List.{length-append}
 use Rattle.std.specs.Prelude.{Option, Some, None, Result, Ok, Err}
@@ -14,20 +14,20 @@ use Rattle.commands.specs.Inputs.{transcript_limit}
 use Rattle.commands.specs.Transcripts.{IsTextRead}
 use Rattle.commands.proofs.SaysLemmas.{rises-before}
 
--- the bytes that the reader has read are those that were handed out of the file of this name, so many
+-- Whether the reader has read the bytes that were returned of the file with this name, and their number is `come`.
 pub record IsReading (inputs : Inputs) (told : Option (List StoredFile)) (name : List ℕ) (left : Option (List ℕ)) (come : ℕ) (read : ReadSoFar) : Type 0 where
   pub bytes : List ℕ
   pub has_read : HasRead inputs.scenario inputs.book bytes read
   pub handed : HandedSoFar told name bytes left
   pub so_many : come ≡ length bytes
 
--- where the file is begun
+-- The file is opened.
 pub reading-begins : (inputs : Inputs) (told : Option (List StoredFile)) (name : List ℕ) (left : Option (List ℕ)) (come : ℕ) (read : ReadSoFar) (u : Unit {0}) → HasRead inputs.scenario inputs.book [] read
     → Begins told name transcript_limit (Ok u) left → come ≡ 0 → IsReading inputs told name left come read
 reading-begins inputs told name left come read u empty begun none =
     record { bytes = []; has_read = empty; handed = begun-none told name transcript_limit u left begun; so_many = none }
 
--- each piece is read
+-- Each piece is read.
 pub reading-goes-on : (inputs : Inputs) (told : Option (List StoredFile)) (name : List ℕ) (left after : Option (List ℕ)) (come now : ℕ) (piece : List ℕ) (read more : ReadSoFar) (u : Unit {0}) → IsReading inputs told name left come read
     → HandsOut left after (Ok u) piece → now ≡ come + length piece
     → ((bytes : List ℕ) → HasRead inputs.scenario inputs.book bytes read → HasRead inputs.scenario inputs.book (bytes ++ piece) more)
@@ -39,7 +39,7 @@ reading-goes-on inputs told name left after come now piece read more u r hands c
   so_many = counts ∙ ap (λ n. n + length piece) r.so_many ∙ sym (length-append r.bytes piece);
 }
 
--- a piece of no bytes ends the file
+-- A piece without bytes ends the file.
 pub reading-ends : (inputs : Inputs) (told : Option (List StoredFile)) (name : List ℕ) (left after : Option (List ℕ)) (come now most : ℕ) (piece : List ℕ) (read : ReadSoFar) (u : Unit {0}) (steady : Bool) (before faults : ℕ) → IsReading inputs told name left come read
     → HandsOut left after (Ok u) piece → length piece ≡ 0 → now ≡ come + length piece → now ≤ most → most ≡ transcript_limit
     → IsTextRead inputs told steady before faults now name (Ok read)
@@ -47,7 +47,7 @@ reading-ends inputs told name left after come now most piece read u steady befor
     let all = handed-all told name r.bytes piece left after u r.handed hands none in
     (r.bytes, r.has_read, omega (arith, r.so_many, none, counts), λ files at. (subst (λ o. HandedAll o name r.bytes) at all, omega (arith, r.so_many, none, counts, within, limit)))
 
--- ---- the file that isn't read to its end
+-- ---- a file that is not read to its end
 
 is-absent : (held : Option (List ℕ)) → ((bytes : List ℕ) → held ≡ Some bytes → ⊥) → held ≡ None
 is-absent None h = refl
@@ -60,7 +60,7 @@ is-long (Some bytes) limit left h = (bytes, refl, h)
 abbrev failing : LoadErr → Result (Unit {0}) LoadErr
 failing why = Err why
 
--- it isn't begun
+-- The file is not opened.
 pub begin-fails : (inputs : Inputs) (told : Option (List StoredFile)) (name : List ℕ) (left : Option (List ℕ)) (steady : Bool) (before now come : ℕ) (why : LoadErr) → Begins told name transcript_limit (Err why) left
     → (failing why ≡ Err Failed → HasRisen before now)
     → ((files : List StoredFile) (bytes : List ℕ) → steady ≡ true → told ≡ Some files → bytes_of files name ≡ Some bytes → failing why ≢ Err Failed)
@@ -74,7 +74,7 @@ begin-fails inputs told name left steady before now come NoLoad begun rises sure
 never-long : (files : List StoredFile) (name done : List ℕ) (left after : Option (List ℕ)) (piece : List ℕ) → HandedSoFar (Some files) name done left → HandsOut left after (Err TooLong) piece → ⊥
 never-long files name done left after piece so_far hands = subst (λ o. HandsOut o after (Err TooLong) piece) so_far.1 hands
 
--- a piece of it isn't handed out
+-- A piece of the file is not returned.
 pub reading-fails : (inputs : Inputs) (told : Option (List StoredFile)) (name : List ℕ) (left after : Option (List ℕ)) (come : ℕ) (piece : List ℕ) (read : ReadSoFar) (steady still : Bool) (before middle now at_end : ℕ) (why : LoadErr) → IsReading inputs told name left come read
     → HandsOut left after (Err why) piece → before ≤ middle → (failing why ≡ Err Failed → HasRisen middle now)
     → still ≡ steady → (still ≡ true → failing why ≢ Err Failed)
@@ -85,7 +85,7 @@ reading-fails inputs told name left after come piece read steady still before mi
     λ files at. absurd (never-long files name r.bytes left after piece (subst (λ o. HandedSoFar o name r.bytes left) at r.handed) hands)
 reading-fails inputs told name left after come piece read steady still before middle now at_end NoLoad r hands kept rises same surely = tt
 
--- ---- whatever the folder tells
+-- ---- for any folder
 
 no-bytes : (bytes : List ℕ) → length bytes ≡ 0 → bytes ≡ []
 no-bytes [] e = refl
@@ -95,7 +95,7 @@ nothing-taken : (n : ℕ) (left : List ℕ) → take (suc n) left ≡ [] → lef
 nothing-taken n [] e = refl
 nothing-taken n (c ∷ left) e = cc
 
--- where a piece of no bytes came the file has ended
+-- After a piece without bytes the file has ended.
 pub has-ended : (left after : Option (List ℕ)) (piece : List ℕ) (u : Unit {0}) → HandsOut left after (Ok u) piece → length piece ≡ 0 → after ≡ Some []
 has-ended None after piece u hands none = hands.0 (no-bytes piece none)
 has-ended (Some left) after piece u hands none =

@@ -1,4 +1,4 @@
--- The auctions of the start set alone, and what is picked of their records.
+-- The auctions of the start set alone, and which of their records are picked.
 use Rattle.std.proofs.Common.{◌≡◌, ◌≢◌, ◌⊎◌, ◌≤◌, ◌<◌, ◌∙◌, ◌-◌, ◌&&◌, ◌||◌, ◌==◌, if◌then◌else◌, ℕ, Bool, true, false, not, inl, inr, List, [], ◌∷◌, ◌++◌, length, filter, map, refl, sym, ap, subst, arith, Option, Some, None}
 use Rattle.std.specs.Prelude.{Contains, IsFalse, MatchOption, Ok}
 use Rattle.std.specs.List.{list_any}
@@ -36,7 +36,7 @@ use Rattle.commands.proofs.ReadingLemmas.{joined-stations}
 
 -- ---- an auction of the start set alone
 
--- its inputs are those of an auction
+-- Their inputs are those of an auction.
 pub seek-auction : (base : SeekBase) (top : ℕ) → IsSeekable base → 14 ≤ top → top ≤ 51 → IsOfAuction (inputs_at base top).scenario (inputs_at base top).book
 seek-auction base top can least most = record {
   limits = only-limits base.scenario top can.limits least most;
@@ -46,7 +46,7 @@ seek-auction base top can least most = record {
 ascends : (base : SeekBase) → IsSeekable base → StationsAscend base.scenario
 ascends base can = let limits : IsWithinLimits base.scenario = can.limits in limits.ascend
 
--- the inputs that a call makes
+-- The inputs that a call builds.
 module _ (base : SeekBase) (top : ℕ) (scenario : Scenario) (book : BookView) (can : IsSeekable base) (only : scenario ≡ start_only base.scenario top) (made : joined scenario base.domains base.pairs ≡ Ok book) where
   made-book : book ≡ book_at base top
   made-book =
@@ -60,11 +60,11 @@ module _ (base : SeekBase) (top : ℕ) (scenario : Scenario) (book : BookView) (
   pub made-auction : 14 ≤ top → top ≤ 51 → IsOfAuction scenario book
   made-auction least most = subst (λ (z : Inputs). IsOfAuction z.scenario z.book) (sym made-inputs) (seek-auction base top can least most)
 
--- its start set is that of the scenario, so its start test asks whether that fits
+-- The start set is the scenario's, so the start test asks whether that set fits.
 pub starts-fit : (base : SeekBase) (top : ℕ) (b : Bool) → IsSeekable base → fits (inputs_at base top).book (start_set (inputs_at base top).scenario) ≡ b → fits_at base top ≡ b
 starts-fit base top b can h = subst (λ set. fits (book_at base top) set ≡ b) (only-starts base.scenario top (ascends base can)) h
 
--- a record of it answers truly
+-- A record of such an auction answers truly.
 pub true-record : (base : SeekBase) (top : ℕ) (rec : Record) (ending : Ending) → IsSeekable base → IsRecordBy (inputs_at base top) rec ending → IsTrueAt base top (answer_of ending)
 true-record base top rec Done can of = starts-fit base top true can of.starts
 true-record base top rec StartRefuted can of = starts-fit base top false can of.starts
@@ -72,7 +72,7 @@ true-record base top rec StartUndecided can of = tt
 
 -- ---- all its stations are on air at the end
 
--- where all stations start nobody is asked
+-- If all stations start on air, no station is asked.
 nobody : (p : ℕ → Bool) (xs : List ℕ) → filter p xs ≡ xs → filter (λ x. not (p x)) xs ≡ []
 nobody p [] e = refl
 nobody p (x ∷ xs) e =
@@ -88,7 +88,7 @@ nobody p (x ∷ xs) e =
           absurd (omega (arith, most, same))
     ]
 
--- a state in which nobody is asked stays
+-- A state in which no station is asked stays.
 stays-so : (sc : Scenario) (book : BookView) (U tests : List ClockTest) (state : ClockState) → state.active ≡ [] → after_tests sc book U tests state ≡ state
 stays-so sc book U [] state none = refl
 stays-so sc book U (t ∷ ts) state none =
@@ -96,14 +96,14 @@ stays-so sc book U (t ∷ ts) state none =
     let same : after_test sc book U state t ≡ state = ap (λ b. if b then after_answer sc state t (has_room sc book U state t) else state) idle in
     ap (after_tests sc book U ts) same ∙ stays-so sc book U ts state none
 
--- each of the stations that start is on air
+-- Each of the stations that start is on air.
 all-on-air : (xs ys : List ℕ) → xs ≡ ys → filter (λ f. list_any (λ (x : OnAirSince). x.station == f) (map (λ s. record { station = s; round = 0 }) ys)) xs ≡ xs
 all-on-air xs ys same =
     let since : ℕ → OnAirSince = λ s. record { station = s; round = 0 } in
     keeps-all (λ f. list_any (λ (x : OnAirSince). x.station == f) (map since ys)) xs (λ f h.
     list_any-from (λ (x : OnAirSince). x.station == f) (map since ys) (since f) (Contains-map since ys f (subst (λ zs. Contains zs f) same h)) (eq-eqb f f refl))
 
--- the stations on air at the end of an auction whose stations all start
+-- The stations on air at the end of an auction whose stations all start.
 pub all-start : (sc : Scenario) (book : BookView) (order : Order) (U : List ClockTest) → start_set sc ≡ facilities sc → on_air_set sc (clock_rule sc book order U) ≡ facilities sc
 unfolding clock_rule
 all-start sc book order U all =
@@ -111,7 +111,7 @@ all-start sc book order U all =
     subst (λ state. on_air_set sc state ≡ facilities sc) (sym (stays-so sc book U (clock_tests sc order) (opening_state sc) none))
     (all-on-air (facilities sc) (start_set sc) (sym all))
 
--- so the map of such an auction has a channel for exactly the stations of the start set
+-- So the map of such an auction has a channel for exactly the stations of the start set.
 pub seek-channels : (base : SeekBase) (top : ℕ) (rec : Record) → IsSeekable base → IsRecordOf (inputs_at base top) rec → IsPacking (book_at base top) (start_set base.scenario) rec.map
 seek-channels base top rec can of =
     let sc : Scenario = start_only base.scenario top in
@@ -121,7 +121,7 @@ seek-channels base top rec can of =
 
 -- ---- the records that are picked
 
--- what was told stands among the records
+-- Each answer that was given has its record.
 pub told-there : (kept : List TopRecord) (top : ℕ) (answer : TopAnswer) → WasTold (asked_of kept) top answer → list_any (is_told top answer) kept ≡ true
 told-there kept top answer h =
     let (x, there, is) = Contains-from_map (λ (x : TopRecord). record { top = x.top; answer = answer_of x.rec.ending }) kept (record { top = top; answer = answer }) h in
@@ -134,7 +134,7 @@ told-there kept top answer h =
     self StartRefuted = refl
     self StartUndecided = refl
 
--- how the auction of a record ended that answers so
+-- The ending of a record with this answer.
 same-ending : (e : Ending) (answer : TopAnswer) → same_answer (answer_of e) answer ≡ true → e ≡ ending_by answer
 same-ending Done Fits h = refl
 same-ending Done Unfit h = absurd (false≢true h)
@@ -146,7 +146,7 @@ same-ending StartUndecided Fits h = absurd (false≢true h)
 same-ending StartUndecided Unfit h = absurd (false≢true h)
 same-ending StartUndecided Open h = refl
 
--- of two tests that both pass, each does
+-- If both tests pass, each passes.
 first-passes : (a b : Bool) → (a && b) ≡ true → a ≡ true
 first-passes true b h = refl
 first-passes false b h = absurd (false≢true h)
@@ -155,14 +155,14 @@ second-passes : (a b : Bool) → (a && b) ≡ true → b ≡ true
 second-passes true b h = h
 second-passes false b h = absurd (false≢true h)
 
--- the next record is the one that is asked for
+-- The next record is the one that is asked for.
 pub pick-here : (base : SeekBase) (x : TopRecord) (top : ℕ) (answer : TopAnswer) → IsTopRecord base x → is_told top answer x ≡ true → IsRecordBy (inputs_at base top) x.rec (ending_by answer)
 pick-here base x top answer of told =
     let same : x.top ≡ top = eqb-true x.top top (first-passes (x.top == top) (same_answer (answer_of x.rec.ending) answer) told) in
     let ended : x.rec.ending ≡ ending_by answer = same-ending x.rec.ending answer (second-passes (x.top == top) (same_answer (answer_of x.rec.ending) answer) told) in
     subst (λ e. IsRecordBy (inputs_at base top) x.rec e) ended (subst (λ t. IsRecordBy (inputs_at base t) x.rec x.rec.ending) same of.auction)
 
--- it is another one
+-- The next record is another one.
 pub pick-past : (base : SeekBase) (all left : List TopRecord) (x : TopRecord) (top : ℕ) (answer : TopAnswer) (picked : Option Record) → is_told top answer x ≡ false →
     Picks base all (left ++ x ∷ []) top answer picked → Picks base all left top answer picked
 pick-past base all left x top answer (Some rec) other h = h
@@ -176,13 +176,13 @@ pick-past base all left x top answer None other h =
     or_false true = refl
     or_false false = refl
 
--- a record of one top channel is none of another
+-- A record of one top channel is none of another.
 pub told-apart : (x : TopRecord) (top other : ℕ) (a b : TopAnswer) → top ≢ other → is_told top a x ≡ true → is_told other b x ≡ false
 told-apart x top other a b ne told = false_from_ne_true (is_told other b x) (λ both.
     ne (sym (eqb-true x.top top (first-passes (x.top == top) (same_answer (answer_of x.rec.ending) a) told))
     ∙ eqb-true x.top other (first-passes (x.top == other) (same_answer (answer_of x.rec.ending) b) both)))
 
--- once nothing is left, the one that is asked for was picked, where it was there
+-- Once no record is left, the one that is asked for was picked, if it existed.
 pub pick-found : (base : SeekBase) (all : List TopRecord) (top : ℕ) (answer : TopAnswer) (picked : Option Record) → list_any (is_told top answer) all ≡ true → Picks base all [] top answer picked →
     MatchOption picked ⊥ (λ rec. IsRecordBy (inputs_at base top) rec (ending_by answer))
 pick-found base all top answer (Some rec) there h = h
@@ -190,7 +190,7 @@ pick-found base all top answer None there h = absurd (false≢true (h ∙ there)
 
 -- ---- what is found
 
--- up to none from 14 on that is less
+-- Whether the start set fits up to no top channel from 14 on that is less.
 abbrev pub NoneLess : SeekBase → ℕ → Type 0
 NoneLess base top = (less : ℕ) → 14 ≤ less → less < top → IsFalse (fits_at base less)
 
@@ -200,7 +200,7 @@ above-first top least other = elim (cases_lt 14 top) [
   | inr within ↦ absurd (other (omega arith))
 ]
 
--- the record of one channel less, by what was told of it
+-- The record of one channel less, by the answer about it.
 pub below-unfit : (base : SeekBase) (top : ℕ) (o : Option Record) → 14 < top → MatchOption o ⊥ (λ rec. IsRecordBy (inputs_at base (top - 1)) rec StartRefuted) → IsOneBelow base top false o
 below-unfit base top (Some rec) above of = (above, of)
 below-unfit base top None above of = absurd of
@@ -222,7 +222,7 @@ least-top base x top open_below at is least most of lower none = record {
   none_less = λ shut less from under. none (sym is ∙ shut) less from (subst (λ t. less < t) at under);
 }
 
--- what was told of a least top, above the first one
+-- The answer about the top below a least top that is not the first.
 pub told-less : (asked : List AskedTop) (top : ℕ) → top ≢ 14 → (top ≡ 14) ⊎ WasTold asked (top - 1) Unfit → WasTold asked (top - 1) Unfit
 told-less asked top other (inl first) = absurd (other first)
 told-less asked top other (inr unfit) = unfit
@@ -230,7 +230,7 @@ told-less asked top other (inr unfit) = unfit
 pub none-below-first : (base : SeekBase) → NoneLess base 14
 none-below-first base less from under = absurd (omega arith)
 
--- what the records answer is true
+-- The answers of the records are true.
 pub records-true : (base : SeekBase) (kept : List TopRecord) → AreTopRecords base kept → AreTrue base (asked_of kept)
 records-true base kept are = λ x there.
     let (y, within, is) = Contains-from_map (λ (y : TopRecord). record { top = y.top; answer = answer_of y.rec.ending }) kept x there in

@@ -1,4 +1,4 @@
--- The reading of a transcript and its check, from what their parts did.
+-- Reading a transcript and checking it, from the results of their parts.
 use Rattle.std.proofs.Common.{◌≡◌, ◌≤◌, ◌∙◌, ℕ, Bool, List, refl, sym, ap, subst}
 use Rattle.std.specs.Prelude.{Option, Some, None, Ok, Err, Result}
 use Rattle.outside_io.specs.Files.{StoredFile}
@@ -31,7 +31,7 @@ use Rattle.commands.proofs.SaysLemmas.{rises-before}
 
 -- ---- the reading
 
--- the end where it was not loaded
+-- The ending of a transcript that was not loaded.
 pub unloaded-ends : (names : VerifyNames) (before after : Outside) (status : ℕ) (found : Option Record) (inputs : Inputs) (why : LoadErr) (told : Option (List StoredFile)) (steady : Bool) (faults come : ℕ) →
     AreInputsOf names.inputs before inputs → told ≡ before.files → steady ≡ before.steady → before.faults ≤ faults →
     IsTextRead inputs told steady faults after.faults come names.transcript (Err why) →
@@ -46,7 +46,7 @@ unloaded-ends names before after status found inputs NoLoad told steady faults c
 
 -- ---- the check
 
--- a sound transcript's record
+-- The record of a sound transcript.
 pub shown-verdict : (inputs : Inputs) (t : Transcript) (rec : Record) → IsAuction inputs.scenario inputs.book → IsSound inputs.scenario inputs.book t → not_shown inputs.scenario inputs.book t ≡ None →
     rec ≡ transcript_record inputs.scenario inputs.book t → IsVerdict inputs (record_by inputs (Ok t)) (Ok rec)
 shown-verdict inputs t rec a sound none same =
@@ -56,18 +56,18 @@ shown-verdict inputs t rec a sound none same =
       subst (λ (r : Record). IsRecordIn r.order inputs r) (sym same) own,
     )
 
--- the first step that isn't shown
+-- The first step that is not shown.
 pub unshown-verdict : (inputs : Inputs) (t : Transcript) (step : ℕ) (why : ShownWhy) → not_shown inputs.scenario inputs.book t ≡ Some (record { step = step; why = why }) →
     IsVerdict inputs (record_by inputs (Ok t)) (Err (Fault (Unshown step why)))
 unshown-verdict inputs t step why is = ap (λ o. shown_or o (transcript_record inputs.scenario inputs.book t)) is
 
--- the verdict on what was read is that on the text
+-- The verdict on what was read is the verdict on the text.
 pub read-verdict : (inputs : Inputs) (text : List ℕ) (t : Transcript) (result : Result Record Denied) → transcript_of inputs.scenario inputs.book text ≡ Ok t →
     IsVerdict inputs (record_by inputs (Ok t)) result → IsVerdict inputs (verified inputs text) result
 unfolding verified
 read-verdict inputs text t result is h = subst (λ o. IsVerdict inputs (record_by inputs o) result) (sym is) h
 
--- a text that was not read
+-- A text that was not read.
 pub unread-verdict : (inputs : Inputs) (text : List ℕ) (why : TextErr) → Fails why (transcript_of inputs.scenario inputs.book text) → IsVerdict inputs (verified inputs text) (Err (not_read why))
 unfolding verified
 unread-verdict inputs text Version is = ap (record_by inputs) is
@@ -75,7 +75,7 @@ unread-verdict inputs text (BadLine n) is = ap (record_by inputs) is
 unread-verdict inputs text Truncated is = ap (record_by inputs) is
 unread-verdict inputs text NoRoom is = tt
 
--- the end where there is no record
+-- The ending without a record.
 pub denied-ends : (names : VerifyNames) (before after : Outside) (status : ℕ) (found : Option Record) (inputs : Inputs) (text : List ℕ) (why : Denied) →
     AreInputsOf names.inputs before inputs → CanBeNamed inputs → IsTextHeld names before text → IsVerdict inputs (verified inputs text) (Err why) →
     ExplainsDenied names.transcript why before.held after.held before.cuts after.cuts status →

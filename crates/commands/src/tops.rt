@@ -25,7 +25,7 @@ use std::marker::Model;
 use std::sync::Wait;
 use std::thread::Threads;
 use target_seek::search::TopSearch;
-use target_seek::seek::Sought;
+use target_seek::sought::Sought;
 use target_seek::top_test::TopAnswer;
 
 /// The least top channel that is tested.

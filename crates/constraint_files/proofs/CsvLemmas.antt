@@ -1,5 +1,5 @@
--- The records of bytes without quotes are those of their lines, one after the other: after a line feed the machine of `csv`
--- stands at the start of a record.
+-- The records of bytes without quotes are those of their lines, one after the other: after a line feed the machine of `csv` is at the
+-- start of a record.
 use Rattle.std.proofs.Common.{◌≡◌, ◌∙◌, ◌<◌, ◌+◌, ◌∷◌, ◌++◌, [], ℕ, List, Option, Some, None, true, false, not, cond, refl, ap, arith, zero, suc, length, eqb, inl, inr}
 use Rattle.std.specs.List.{flat_map, list_all}
 use Rattle.std.proofs.lemmas.Bool.{and_parts, cases_Bool, eqb-true, not-true}
@@ -11,7 +11,7 @@ use Rattle.csv.specs.declared.parser.State.TheVariants as st
 use Rattle.constraint_files.specs.Records.{lines_of, onto_first}
 use Rattle.constraint_files.proofs.Whole.{reads-end, reads-less}
 
--- the records of some bytes from a state, with the fields and the bytes of the field at hand
+-- The records of some bytes from a state, with the current fields and the bytes of the current field.
 unfoldable pub rows_from : State → List (List ℕ) → List ℕ → List ℕ → List (List (List ℕ))
 rows_from s fields field [] = cond (ends_at_end s) ((fields ++ (field ∷ [])) ∷ []) []
 rows_from s fields field (c ∷ rest) =
@@ -19,7 +19,7 @@ rows_from s fields field (c ∷ rest) =
     (fields_after (step default_config s c).1 fields field ∷ rows_from (step default_config s c).0 [] [] rest)
     (rows_from (step default_config s c).0 (fields_after (step default_config s c).1 fields field) (field_after (step default_config s c).1 c field) rest)
 
--- the records of some bytes
+-- The records of some bytes.
 abbrev pub rows : List ℕ → List (List (List ℕ))
 rows bytes = rows_from st.StartRecord [] [] bytes
 
@@ -40,7 +40,7 @@ unfolding records_from next_record rows_from
 rows-none zero = refl
 rows-none (suc m) = refl
 
--- as many records as there may be are all
+-- A sufficient bound on the number of records yields all records.
 rows-all : (n : ℕ) (s : State) (xs : List ℕ) → length xs < n → records_from default_config n s xs ≡ rows_from s [] [] xs
 unfolding records_from
 rows-all zero s xs h = absurd (omega arith)
@@ -61,7 +61,7 @@ rows-all (suc n) s (c ∷ xs) h = rw (rows-next s [] [] (c ∷ xs))
 pub records-rows : (xs : List ℕ) → records default_config xs ≡ rows xs
 records-rows xs = rows-all (length xs + 1) st.StartRecord xs (omega arith)
 
--- a state outside quotes: at the start of a record nothing is at hand
+-- A state outside quotes. At the start of a record no field has begun.
 abbrev Plain : State → List (List ℕ) → List ℕ → Type 0
 Plain st.StartRecord fields field = (fields ≡ []) × (field ≡ [])
 Plain st.AfterCr fields field = (fields ≡ []) × (field ≡ [])
@@ -72,7 +72,7 @@ Plain st.AfterQuote fields field = ⊥
 Plain st.InEscape fields field = ⊥
 Plain st.InComment fields field = ⊥
 
--- a byte that is no quote, in a field
+-- A byte that is no quote, in a field.
 in-field-end : (c : ℕ) → is_end (in_field default_config c).1 ≡ true → Plain (in_field default_config c).0 [] []
 in-field-end c e = elim (cases_Bool (eqb c 44)) [
   | inl comma ↦ cc (rw comma at e)
@@ -98,7 +98,7 @@ in-field-goes c fields field e = elim (cases_Bool (eqb c 44)) [
   ]
 ]
 
--- the same at the start of a field
+-- A byte that is no quote, at the start of a field.
 start-field-end : (c : ℕ) → eqb c 34 ≡ false → is_end (start_field default_config c).1 ≡ true → Plain (start_field default_config c).0 [] []
 start-field-end c none e = rw none (in-field-end c (rw none at e))
 
@@ -106,7 +106,7 @@ start-field-goes : (c : ℕ) (fields : List (List ℕ)) (field : List ℕ) → e
     → Plain (start_field default_config c).0 (fields_after (start_field default_config c).1 fields field) (field_after (start_field default_config c).1 c field)
 start-field-goes c fields field none e = rw none (in-field-goes c fields field (rw none at e))
 
--- the same at the start of a record
+-- A byte that is no quote, at the start of a record.
 start-record-end : (c : ℕ) → eqb c 34 ≡ false → is_end (start_record default_config c).1 ≡ true → Plain (start_record default_config c).0 [] []
 start-record-end c none e = elim (cases_Bool (eqb c 13)) [
   | inl cr ↦ cc (rw cr at e)
@@ -126,7 +126,7 @@ start-record-goes c none e = elim (cases_Bool (eqb c 13)) [
   ]
 ]
 
--- a byte that is no quote leads from a state outside quotes to one
+-- A byte that is no quote leads from a state outside quotes to another one.
 step-end : (s : State) (c : ℕ) (fields : List (List ℕ)) (field : List ℕ) → Plain s fields field → eqb c 34 ≡ false
     → is_end (step default_config s c).1 ≡ true → Plain (step default_config s c).0 [] []
 step-end st.StartRecord c fields field at none e = start-record-end c none e
@@ -156,7 +156,7 @@ step-goes st.AfterQuote c fields field at none e = absurd at
 step-goes st.InEscape c fields field at none e = absurd at
 step-goes st.InComment c fields field at none e = absurd at
 
--- after a line feed outside quotes the machine is at the start of a record
+-- After a line feed outside quotes the machine is at the start of a record.
 line-feed : (s : State) (fields : List (List ℕ)) (field xs : List ℕ) → Plain s fields field → rows_from s fields field (10 ∷ xs) ≡ rows_from s fields field [] ++ rows xs
 unfolding rows_from
 line-feed st.StartRecord fields field xs at = rw (at.0, at.1) refl
@@ -168,7 +168,7 @@ line-feed st.AfterQuote fields field xs at = absurd at
 line-feed st.InEscape fields field xs at = absurd at
 line-feed st.InComment fields field xs at = absurd at
 
--- the records of lines, the first of which is read from a state
+-- The records of lines, the first of which is read from a state.
 abbrev joined_rows : State → List (List ℕ) → List ℕ → List (List ℕ) → List (List (List ℕ))
 joined_rows s fields field [] = rows_from s fields field []
 joined_rows s fields field (l ∷ ls) = rows_from s fields field l ++ flat_map rows ls

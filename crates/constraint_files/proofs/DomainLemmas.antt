@@ -11,7 +11,7 @@ use Rattle.constraint_files.specs.Numbers.{number, numbers}
 use Rattle.pack_defs.specs.Steps.{◌>>=◌}
 use Rattle.constraint_files.specs.declared.error.RowWhy.TheVariants.{ShortRow, BadKey, BadNumber}
 
--- a filter goes by what its test says of the range's numbers
+-- A filter of a range depends only on the test's values in the range.
 filter-range : (p q : ℕ → Bool) (a n : ℕ) → ((c : ℕ) → a ≤ c → c < a + n → p c ≡ q c) → filter p (range_with_len a n) ≡ filter q (range_with_len a n)
 filter-range p q a zero same = refl
 filter-range p q a (suc n) same =
@@ -21,7 +21,7 @@ pub same-kept : (p q : ℕ → Bool) → ((c : ℕ) → c < 52 → p c ≡ q c) 
 unfolding channels_to_keep
 same-kept p q same = filter-range p q 14 38 (λ c low high. same c (omega arith))
 
--- those of the channels below j
+-- The kept channels below j.
 abbrev pub kept_below : (ℕ → Bool) → ℕ → List ℕ
 kept_below p j = filter p (range_with_len 14 (j - 14))
 
@@ -35,7 +35,7 @@ pub kept-all : (p : ℕ → Bool) (j : ℕ) → j ≡ 52 → kept_below p j ≡ 
 unfolding channels_to_keep
 kept-all p j e = rw e refl
 
--- the domain of a record, by its first fields
+-- The domain of a record, by its first fields.
 pub without-first : (fields : List (List ℕ)) → field_at fields 0 ≡ None → domain_row fields ≡ Err ShortRow
 unfolding domain_row field_at
 without-first [] e = refl

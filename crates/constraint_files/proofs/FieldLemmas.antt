@@ -6,7 +6,7 @@ use Rattle.pack_defs.specs.Lists.{is_empty}
 use Rattle.csv.specs.Records.{field_at}
 use Rattle.constraint_files.specs.Records.{trimmed, without_leading, without_trailing}
 
--- one item more at the end: it goes, or all stay
+-- One more item at the end: it is dropped, or all stay.
 pub trailing-more : {A : Type 0} (p : A → Bool) (xs : List A) (x : A) → without_trailing p (xs ++ (x ∷ [])) ≡ cond (p x) (without_trailing p xs) (xs ++ (x ∷ []))
 unfolding without_trailing
 trailing-more p xs x = rw (reverse-append xs (x ∷ [])) (go (p x))
@@ -15,18 +15,18 @@ trailing-more p xs x = rw (reverse-append xs (x ∷ [])) (go (p x))
     go true = refl
     go false = ap reverse (sym (reverse-append xs (x ∷ []))) ∙ reverse-reverse (xs ++ (x ∷ []))
 
--- the first items pass
+-- The first items pass.
 pub leading-next : {A : Type 0} (p : A → Bool) (xs : List A) (i : ℕ) (d : A) → i < length xs → p (get_or xs i d) ≡ true → without_leading p (drop i xs) ≡ without_leading p (drop (i + 1) xs)
 leading-next p xs i d h e = rw (drop_more xs i d h, e) refl
 
--- an item doesn't pass
+-- An item doesn't pass.
 pub leading-stop : {A : Type 0} (p : A → Bool) (xs : List A) (i : ℕ) (d : A) → i < length xs → p (get_or xs i d) ≡ false → without_leading p (drop i xs) ≡ drop i xs
 leading-stop p xs i d h e = rw (drop_more xs i d h, e) refl
 
 pub leading-none : {A : Type 0} (p : A → Bool) (xs : List A) (i : ℕ) → length xs ≤ i → without_leading p (drop i xs) ≡ []
 leading-none p xs i h = rw (drop_all i xs h) refl
 
--- the last item passes
+-- The last item passes.
 pub trailing-next : {A : Type 0} (p : A → Bool) (xs : List A) (end : ℕ) (d : A) → 0 < end → end ≤ length xs → p (get_or xs (end - 1) d) ≡ true
     → without_trailing p (take end xs) ≡ without_trailing p (take (end - 1) xs)
 trailing-next p xs zero d some h e = absurd (omega arith)
@@ -35,7 +35,7 @@ trailing-next p xs (suc n) d some h e =
     let step = take_more xs n d (omega arith) in
     rw (less, rw add-one at step, trailing-more p (take n xs) (get_or xs n d), rw less at e) refl
 
--- the last item doesn't pass
+-- The last item doesn't pass.
 pub trailing-stop : {A : Type 0} (p : A → Bool) (xs : List A) (end : ℕ) (d : A) → 0 < end → end ≤ length xs → p (get_or xs (end - 1) d) ≡ false
     → without_trailing p (take end xs) ≡ take end xs
 trailing-stop p xs zero d some h e = absurd (omega arith)
@@ -49,14 +49,14 @@ unfolding without_trailing
 trailing-none p xs zero h = refl
 trailing-none p xs (suc n) h = absurd (omega arith)
 
--- the field at a place
+-- The field at a place.
 pub field-at : (fs : List (List ℕ)) (i : ℕ) (d : List ℕ) → i < length fs → field_at fs i ≡ Some (get_or fs i d)
 unfolding field_at
 field-at [] i d h = absurd (omega arith)
 field-at (f ∷ fs) zero d h = refl
 field-at (f ∷ fs) (suc i) d h = field-at fs i d (omega arith)
 
--- the same of the trimmed fields up to a place, and none from there on
+-- The field at a place of the trimmed fields up to k, and none from k on.
 pub kept-at : (fs : List (List ℕ)) (k i : ℕ) → i < k → field_at (take k (map trimmed fs)) i ≡ option_map trimmed (field_at fs i)
 unfolding field_at
 kept-at fs zero i h = absurd (omega arith)
@@ -71,7 +71,7 @@ none-at [] (suc k) i h = refl
 none-at (f ∷ fs) (suc k) zero h = absurd (omega arith)
 none-at (f ∷ fs) (suc k) (suc i) h = none-at fs k i (omega arith)
 
--- whether the trimmed field at a place is empty
+-- Whether the trimmed field at a place is empty.
 pub empty-at : (fs : List (List ℕ)) (i : ℕ) → i < length fs → option_map_or is_empty (option_map trimmed (field_at fs i)) true ≡ is_empty (get_or (map trimmed fs) i [])
 unfolding field_at
 empty-at [] i h = absurd (omega arith)

@@ -1,4 +1,4 @@
--- A list that is sorted and rid of doubles has what a tree has after the list is put into it.
+-- A sorted list without duplicates has what a tree has after the list's insertion.
 use Rattle.std.proofs.Common.{◌≡◌, ◌||◌, ◌∙◌, ◌∷◌, [], List, Bool, true, false, Ordering, cond, refl, sym, ap, fold}
 use Rattle.std.specs.declared.cmp.Ordering.TheVariants.{Less, Equal, Greater}
 use Rattle.std.specs.Ordering.{eq_by_cmp, is_eq, match_ordering, ordering_reverse}

@@ -1,4 +1,4 @@
--- A search by halves among domains that ascend by station.
+-- A binary search among domains that ascend by station.
 use Rattle.std.proofs.Common.{◌≡◌, ◌<◌, ◌≤◌, ◌+◌, ◌∷◌, [], ℕ, List, Some, None, true, zero, suc, refl, sym, arith, add-one, lt_trans, map, length, get_or, eqb, nat_cmp, inl, inr}
 use Rattle.std.specs.declared.cmp.Ordering.TheVariants.{Less, Greater}
 use Rattle.std.specs.Ordering.{ordering_index}
@@ -11,7 +11,7 @@ use Rattle.pack_defs.specs.Lists.{is_ascending}
 use Rattle.pack_defs.specs.declared.domain.Domain.{Domain}
 use Rattle.constraint_files.specs.Domains.{channels_of}
 
--- each station is below the next
+-- Each station is below the next.
 rises : (ds : List Domain) (k : ℕ) (d : Domain) → is_ascending (map (λ x. x.station) ds) ≡ true → suc k < length ds
     → (get_or ds k d).station < (get_or ds (suc k) d).station
 rises [] k d up h = absurd (omega arith)
@@ -19,7 +19,7 @@ rises (x ∷ []) k d up h = absurd (omega arith)
 rises (x ∷ y ∷ ds) zero d up h = ltb-true x.station y.station (and_parts _ _ up).0
 rises (x ∷ y ∷ ds) (suc k) d up h = rises (y ∷ ds) k d (and_parts _ _ up).1 (omega arith)
 
--- the first station is below each later one
+-- The first station is below each later one.
 first-below : (x : Domain) (ds : List Domain) (k : ℕ) (d : Domain) → is_ascending (map (λ y. y.station) (x ∷ ds)) ≡ true → k < length ds
     → x.station < (get_or ds k d).station
 first-below x [] k d up h = absurd (omega arith)
@@ -28,14 +28,14 @@ first-below x (y ∷ ds) (suc k) d up h =
     let parts = and_parts _ _ up in
     lt_trans (ltb-true x.station y.station parts.0) (first-below y ds k d parts.1 (omega arith))
 
--- the search may go by halves
+-- The binary search is allowed.
 pub searchable : (ds : List Domain) (f : ℕ) → is_ascending (map (λ x. x.station) ds) ≡ true → IsNonDecreasingBy (λ (x : Domain). ordering_index (nat_cmp x.station f)) ds
 searchable ds f up =
     searchable_from_sorted nat_cmp_total (λ (x : Domain). x.station) ds f (λ k d low h.
     let r : (get_or ds k d).station < (get_or ds (k + 1) d).station = rw add-one (rises ds k d up (omega arith)) in
     rw (le-ltb (get_or ds (k + 1) d).station (get_or ds k d).station (omega arith), ne_eqb (get_or ds (k + 1) d).station (get_or ds k d).station (λ e. absurd (omega arith))) refl)
 
--- what it found is the row of the station
+-- The search finds the row of the station.
 pub found : (ds : List Domain) (i f : ℕ) (d : Domain) → is_ascending (map (λ x. x.station) ds) ≡ true → i < length ds → (get_or ds i d).station ≡ f
     → channels_of ds f ≡ Some (get_or ds i d).channels
 found [] i f d up h e = absurd (omega arith)
@@ -45,7 +45,7 @@ found (x ∷ y ∷ ds) (suc i) f d up h e =
     let below = first-below x (y ∷ ds) i d up (omega arith) in
     rw (ne_eqb x.station f (λ same. absurd (omega arith))) (found (y ∷ ds) i f d (and_parts _ _ up).1 (omega arith) e)
 
--- all before are less and all after greater: there is no row
+-- If all before are less and all after greater, the station has no row.
 pub missing : (ds : List Domain) (i f : ℕ)
     → ((k : ℕ) (d : Domain) → 0 ≤ k → k < i → nat_cmp (get_or ds k d).station f ≡ Less)
     → ((k : ℕ) (d : Domain) → i ≤ k → k < length ds → nat_cmp (get_or ds k d).station f ≡ Greater)

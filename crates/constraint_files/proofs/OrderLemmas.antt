@@ -1,4 +1,4 @@
--- What the definitions give is in order.
+-- The domains of the definitions are in order.
 use Rattle.std.proofs.Common.{◌≡◌, ◌<◌, ◌+◌, ◌∷◌, [], ℕ, List, Bool, Option, Some, None, Result, Ok, Err, true, false, codes, cond, length, nat_le, nat_lt, refl, arith, map, eqb, subst}
 use Rattle.std.specs.List.{list_all}
 use Rattle.std.specs.List.Sorted.{IsStrictlyIncreasing}
@@ -18,7 +18,7 @@ use Rattle.pack_defs.specs.Steps.{◌>>=◌}
 use Rattle.constraint_files.specs.declared.error.RowWhy.{RowWhy}
 use Rattle.constraint_files.specs.declared.error.RowWhy.TheVariants.{BadKey, BadNumber, ChannelRange, SecondDomain, TooMany}
 
--- what each record keeps, all keep
+-- What each record preserves, all records preserve.
 after-keeps : {S : Type 0} (add : S → List (List ℕ) → Result S RowWhy) (P : S → Type 0) → ((s last : S) (r : List (List ℕ)) → P s → add s r ≡ Ok last → P last)
     → (s last : S) (rs : List (List (List ℕ))) → P s → after_records add s rs ≡ Ok last → P last
 unfolding after_records
@@ -42,7 +42,7 @@ lines-keep {S = S} add P keeps s last number (line ∷ lines) p e =
     go (Err why) kept later h = cc
     go (Ok next) kept later h = later next (kept next refl) h
 
--- the channels of a domain ascend
+-- The channels of a domain ascend.
 to-keep-rise : IsStrictlyIncreasing channels_to_keep
 unfolding channels_to_keep
 to-keep-rise k h =
@@ -78,7 +78,7 @@ row-ascends (key ∷ facility ∷ channels) d e = by_key (bytes_eq key (codes "D
     by_key true h = by_station (number facility) h
     by_key false h = cc
 
--- a domain in its place leaves the stations ascending
+-- A domain inserted in its place keeps the stations ascending.
 above-first : (x : ℕ) (d : Domain) (es : List Domain) → x < d.station → is_ascending (x ∷ map (λ e. e.station) es) ≡ true
     → is_ascending (map (λ e. e.station) (with_domain d es)) ≡ true → is_ascending (x ∷ map (λ e. e.station) (with_domain d es)) ≡ true
 above-first x d [] below up later = rw (lt-ltb x d.station below) refl
@@ -133,7 +133,7 @@ add-in-order ds last r order e = go (domain_row r) (row-ascends r) e
     go (Err why) one h = cc
     go (Ok d) one h = put-in-order ds last d (one d refl) order h
 
--- the domains of a file are in order
+-- The domains of a file are in order.
 pub domains-in-order : (bytes : List ℕ) (ds : List Domain) → domains_of bytes ≡ Ok ds → AreInOrder ds
 unfolding domains_of
 domains-in-order bytes ds e =

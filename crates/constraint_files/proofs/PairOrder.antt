@@ -1,4 +1,4 @@
--- The order of pairs in a tree is the order that the definitions give them.
+-- The order of pairs in a tree is the order of the definitions.
 use Rattle.std.proofs.Common.{◌≡◌, ◌<◌, ◌≤◌, ◌+◌, ◌&&◌, ◌||◌, ◌∷◌, [], ℕ, List, Bool, true, false, Ordering, refl, sym, arith, cond, fold, length, nat_cmp, eqb, ltb}
 use Rattle.std.specs.declared.cmp.Ordering.TheVariants.{Less, Equal, Greater}
 use Rattle.std.specs.Ordering.{ordering_then}
@@ -10,7 +10,7 @@ use Rattle.pack_defs.specs.declared.pair.Pair.{Pair}
 use Rattle.pack_defs.proofs.Searches.{pair_cmp}
 use Rattle.constraint_files.specs.Rows.{with_pair}
 
--- what an answer of a comparison says of "the second before the first" and "the first before the second"
+-- What the result of a comparison says about "the second before the first" and "the first before the second".
 abbrev Ranks : Bool → Bool → Ordering → Type 0
 Ranks after before Less = (after ≡ false) × (before ≡ true)
 Ranks after before Equal = (after ≡ false) × (before ≡ false)
@@ -35,7 +35,7 @@ ranks p q =
     (by-first p.a q.a _ _ (ordering_then (nat_cmp p.g q.g) (nat_cmp p.b q.b))
     (by-first p.g q.g _ _ (nat_cmp p.b q.b) (by-numbers p.b q.b)))
 
--- a tree's key goes where a pair goes
+-- The tree inserts a pair where `with_pair` does.
 pub insert-pair : (ps : List Pair) (p : Pair) → insert_key pair_cmp ps p ≡ with_pair ps p
 insert-pair [] p = refl
 insert-pair (q ∷ qs) p = go (pair_cmp p q) refl (ranks p q) (insert-pair qs p)
@@ -46,12 +46,12 @@ insert-pair (q ∷ qs) p = go (pair_cmp p q) refl (ranks p q) (insert-pair qs p)
     go Equal is r later = rw (is, r.0, r.1) refl
     go Greater is r later = rw (is, r, later) refl
 
--- the same of some pairs
+-- The same for several pairs.
 pub insert-pairs : (ks ps : List Pair) → fold (insert_key pair_cmp) ks ps ≡ fold with_pair ks ps
 insert-pairs ks [] = refl
 insert-pairs ks (p ∷ ps) = rw (insert-pair ks p) (insert-pairs (with_pair ks p) ps)
 
--- a pair more
+-- One more pair.
 pub with-few : (ks : List Pair) (p : Pair) → length (with_pair ks p) ≤ length ks + 1
 with-few [] p = omega arith
 with-few (q ∷ qs) p = go (comes_before q p) (comes_before p q) (with-few qs p)
@@ -61,7 +61,7 @@ with-few (q ∷ qs) p = go (comes_before q p) (comes_before p q) (with-few qs p)
     go false true later = omega arith
     go false false later = omega arith
 
--- pairs are at most as many as were put
+-- The pairs are at most as many as were inserted.
 pub puts-few : (ks ps : List Pair) → length (fold with_pair ks ps) ≤ length ks + length ps
 puts-few ks [] = omega arith
 puts-few ks (p ∷ ps) = omega (arith, puts-few (with_pair ks p) ps, with-few ks p)

@@ -14,7 +14,7 @@ use Rattle.constraint_files.specs.declared.error.RowWhy.TheVariants.{TooMany}
 use Rattle.constraint_files.specs.Rows.{PairsView, add_row, if_few, interference_row, pair_of, pairs_of, with_kept, with_other, with_pair}
 use Rattle.constraint_files.proofs.OrderLemmas.{lines-keep}
 
--- a pair in its place leaves the pairs ascending
+-- A pair inserted in its place keeps the pairs ascending.
 above-first : (x p : Pair) (qs : List Pair) → comes_before x p ≡ true → pairs_ascend (x ∷ qs) ≡ true
     → pairs_ascend (with_pair qs p) ≡ true → pairs_ascend (x ∷ with_pair qs p) ≡ true
 above-first x p [] below up later = rw below refl
@@ -76,7 +76,7 @@ row-ascends domains told last r up e = go (interference_row r) e
     go (Err why) h = cc
     go (Ok row) h = few-ascend (fold (with_other domains row) told row.others) last (others-ascend domains row told row.others up) h
 
--- the pairs of a file ascend
+-- The pairs of a file ascend.
 pub pairs-ascend : (bytes : List ℕ) (domains : List Domain) (told : PairsView) → pairs_of bytes domains ≡ Ok told → pairs_ascend told.list ≡ true
 unfolding pairs_of
 pairs-ascend bytes domains told e =

@@ -1,4 +1,4 @@
--- A domains file and a rows file that come in pieces read as they do in one.
+-- A domains file and a rows file that come in pieces read as they do in one piece.
 use Rattle.std.proofs.Common.{◌≡◌, ◌∙◌, ◌+◌, ◌∷◌, ◌++◌, [], ℕ, List, Result, Ok, Err, refl, sym, length, subst}
 use Rattle.std.proofs.lemmas.List.{append-nil}
 use Rattle.pack_defs.specs.Book.{AreInOrder}
@@ -17,7 +17,7 @@ use Rattle.constraint_files.proofs.PairsAscend.{row-ascends}
 use Rattle.constraint_files.proofs.PairsOfTwo.{row-two}
 use Rattle.constraint_files.proofs.PieceLemmas.{fed-append, fed-end, fed-refused}
 
--- what each record keeps, a piece keeps
+-- What each record preserves, a piece preserves.
 fed-keeps : {S : Type 0} (add : S → List (List ℕ) → Result S RowWhy) (P : S → Type 0) → ((s last : S) (r : List (List ℕ)) → P s → add s r ≡ Ok last → P last)
     → (had has : Fed S) (xs : List ℕ) → P had.made → fed_on add had xs ≡ Ok has → P has.made
 unfolding fed_on
@@ -30,13 +30,13 @@ fed-keeps {S = S} add P keeps had has xs p e = go (after_lines add had.made had.
         let same : record { made = made; begun = begun_line (had.begun ++ xs); line = had.line + length (whole_lines (had.begun ++ xs)) } ≡ has = cc in
         subst (λ (f : Fed S). P f.made) same (lines-keep add P keeps had.made made had.line (whole_lines (had.begun ++ xs)) p is)
 
--- domains
+-- ---- domains
 
 pub domains-none : domains_fed [] ≡ Ok (record { made = []; begun = []; line = 1 })
 unfolding domains_fed fed_on after_lines whole_lines begun_line
 domains-none = refl
 
--- What a piece more makes of what is there.
+-- The effect of one more piece.
 pub domains-more : (bytes piece : List ℕ) (has : Fed (List Domain)) → domains_fed bytes ≡ Ok has → domains_fed (bytes ++ piece) ≡ fed_on add_domain_row has piece
 unfolding domains_fed
 domains-more bytes piece has e = fed-append add_domain_row (record { made = []; begun = []; line = 1 }) has bytes piece e
@@ -46,12 +46,12 @@ pub domains-end : (bytes : List ℕ) (has : Fed (List Domain)) → domains_fed b
 unfolding domains_fed domains_of
 domains-end bytes has e = fed-end add_domain_row (record { made = []; begun = []; line = 1 }) has bytes e
 
--- A file whose first bytes are refused is refused so, whatever comes behind them.
+-- If the first bytes of a file are rejected, the file is rejected with the same error, whatever follows.
 pub domains-refused : (bytes more : List ℕ) (why : ReadErr) → domains_fed bytes ≡ Err why → domains_of (bytes ++ more) ≡ Err why
 unfolding domains_fed domains_of
 domains-refused bytes more why e = fed-refused add_domain_row (record { made = []; begun = []; line = 1 }) bytes more why e
 
--- The same of the whole file.
+-- The same for the complete file.
 pub domains-stop : (bytes : List ℕ) (e : ReadErr) → Reads (domains_fed bytes) (Err e) → Reads (domains_of bytes) (Err e)
 domains-stop bytes (Row l why) h = rw (append-nil bytes) at (domains-refused bytes [] (Row l why) h)
 domains-stop bytes NoMemory h = tt
@@ -63,9 +63,9 @@ pub domains-done : (has : Fed (List Domain)) (ds : List Domain) → AreInOrder h
 unfolding finished
 domains-done has ds order e = lines-keep add_domain_row AreInOrder add-in-order has.made ds has.line (lines_of has.begun) order e
 
--- rows
+-- ---- rows
 
--- what rows say, with the domains
+-- The contents of rows, with the domains.
 abbrev over : {E : Type 0} → List Domain → Result PairsView E → Result RowsView E
 over domains (Ok told) = Ok (record { domains = domains; told = told })
 over domains (Err why) = Err why
@@ -102,7 +102,7 @@ over-err : (domains : List Domain) (o : Result PairsView ReadErr) (why : ReadErr
 over-err domains (Ok told) why e = cc
 over-err domains (Err w) why e = cc
 
--- a reader before the first row
+-- A reader before the first row.
 abbrev pub no_rows : List Domain → Fed RowsView
 no_rows domains = record { made = record { domains = domains; told = record { list = []; self_pairs = 0; strangers = 0 } }; begun = []; line = 1 }
 
@@ -134,7 +134,7 @@ pub pairs-end-stops : (bytes : List ℕ) (domains : List Domain) (has : Fed Rows
 pairs-end-stops bytes domains has (Row l why) e done = pairs-end-refused bytes domains has (Row l why) e done
 pairs-end-stops bytes domains has NoMemory e done = tt
 
--- A file whose first bytes are refused is refused so, whatever comes behind them.
+-- If the first bytes of a file are rejected, the file is rejected with the same error, whatever follows.
 pub pairs-refused : (bytes more : List ℕ) (domains : List Domain) (why : ReadErr) → pairs_fed bytes domains ≡ Err why → pairs_of (bytes ++ more) domains ≡ Err why
 unfolding pairs_fed pairs_of
 pairs-refused bytes more domains why e =
@@ -145,7 +145,7 @@ pub pairs-stop : (bytes : List ℕ) (domains : List Domain) (e : ReadErr) → Re
 pairs-stop bytes domains (Row l why) h = rw (append-nil bytes) at (pairs-refused bytes [] domains (Row l why) h)
 pairs-stop bytes domains NoMemory h = tt
 
--- a record leaves the pairs as they are to be
+-- A record preserves the order of the pairs.
 abbrev AreRows : RowsView → Type 0
 AreRows rows = ArePairs rows.told.list
 

@@ -1,4 +1,4 @@
--- A file that comes in pieces: the lines of two parts, and what they make one after the other.
+-- A file that comes in pieces: the lines of two parts, and their effects one after the other.
 use Rattle.std.proofs.Common.{◌≡◌, ◌∙◌, ◌<◌, ◌≤◌, ◌+◌, ◌-◌, ◌∷◌, ◌++◌, [], ℕ, List, Result, Ok, Err, true, false, zero, suc, refl, ap, add-one, arith, append_assoc, length, take, drop, get_or, eqb, ne_eqb, inl, inr}
 use Rattle.std.proofs.lemmas.Bool.{cases_Bool}
 use Rattle.std.proofs.lemmas.List.{append-nil, drop_more, length-append, take_more}
@@ -10,7 +10,7 @@ use Rattle.constraint_files.specs.declared.error.ReadErr.{ReadErr}
 use Rattle.constraint_files.specs.declared.error.ReadErr.TheVariants.{Row, NoMemory}
 use Rattle.constraint_files.specs.declared.error.RowWhy.{RowWhy}
 
--- bytes without an end have no whole line, and all of them are begun
+-- Bytes without an end have no complete line; all of them belong to the unfinished line.
 pub no-whole : (xs : List ℕ) → has_end xs ≡ false → whole_lines xs ≡ []
 unfolding whole_lines
 no-whole [] none = refl
@@ -24,7 +24,7 @@ unfolding begun_line
 all-begun [] none = refl
 all-begun (c ∷ xs) none = rw none refl
 
--- bytes with an end have a whole line
+-- Bytes with an end have a complete line.
 some-whole : (xs : List ℕ) → has_end xs ≡ true → (l : List ℕ) × (ls : List (List ℕ)) × (whole_lines xs ≡ l ∷ ls)
 unfolding whole_lines
 some-whole [] some = cc
@@ -33,7 +33,7 @@ some-whole (c ∷ xs) some = elim (cases_Bool (eqb c 10)) [
   | inr f ↦ let r = some-whole xs (rw f at some) in (c ∷ r.0, r.1, rw (f, r.2) refl)
 ]
 
--- the whole lines of two parts: those of the first, and those of what it has begun and the second
+-- The complete lines of two parts: those of the first, and those of its unfinished line and the second.
 pub whole-append : (xs ys : List ℕ) → whole_lines (xs ++ ys) ≡ whole_lines xs ++ whole_lines (begun_line xs ++ ys)
 unfolding whole_lines begun_line
 whole-append [] ys = refl
@@ -53,7 +53,7 @@ begun-append (c ∷ xs) ys = elim (cases_Bool (has_end (c ∷ xs))) [
   | inr none ↦ rw none refl
 ]
 
--- all lines: the whole ones, and the one that is begun
+-- All lines: the complete ones, and the unfinished one.
 pub lines-whole : (xs : List ℕ) → lines_of xs ≡ whole_lines xs ++ lines_of (begun_line xs)
 unfolding lines_of whole_lines begun_line
 lines-whole [] = refl
@@ -65,7 +65,7 @@ lines-whole (c ∷ xs) = elim (cases_Bool (eqb c 10)) [
   ]
 ]
 
--- what two runs of lines make, one after the other
+-- The effects of two runs of lines, one after the other.
 pub after-append : {S : Type 0} (add : S → List (List ℕ) → Result S RowWhy) (s m : S) (n : ℕ) (xs ys : List (List ℕ))
     → after_lines add s n xs ≡ Ok m → after_lines add s n (xs ++ ys) ≡ after_lines add m (n + length xs) ys
 unfolding after_lines
@@ -82,7 +82,7 @@ after-append {S = S} add s m n (x ∷ xs) ys e =
     go (Err why) later h = cc
     go (Ok next) later h = later next h
 
--- the first refusal stays
+-- The first error stays.
 pub after-refused : {S : Type 0} (add : S → List (List ℕ) → Result S RowWhy) (s : S) (n : ℕ) (xs ys : List (List ℕ)) (why : ReadErr)
     → after_lines add s n xs ≡ Err why → after_lines add s n (xs ++ ys) ≡ Err why
 unfolding after_lines
@@ -110,7 +110,7 @@ fed-append {S = S} add had has xs ys e = go (after_lines add had.made had.line (
         let z : had.line + (length (whole_lines all) + length (whole_lines (begun_line all ++ ys))) ≡ had.line + length (whole_lines all) + length (whole_lines (begun_line all ++ ys)) = omega arith in
         rw (← same, ← append_assoc had.begun xs ys, whole-append all ys, begun-append all ys, length-append (whole_lines all) (whole_lines (begun_line all ++ ys)), after-append add had.made m had.line (whole_lines all) (whole_lines (begun_line all ++ ys)) is, z) refl
 
--- What is made of the bytes so far as the whole file.
+-- The result of the bytes so far as a complete file.
 pub fed-end : {S : Type 0} (add : S → List (List ℕ) → Result S RowWhy) (had has : Fed S) (xs : List ℕ)
     → fed_on add had xs ≡ Ok has → after_lines add had.made had.line (lines_of (had.begun ++ xs)) ≡ finished add has
 unfolding fed_on finished
@@ -125,7 +125,7 @@ fed-end {S = S} add had has xs e = go (after_lines add had.made had.line (whole_
         let same : record { made = m; begun = begun_line all; line = had.line + length (whole_lines all) } ≡ has = cc in
         rw (← same, lines-whole all) (after-append add had.made m had.line (whole_lines all) (lines_of (begun_line all)) is)
 
--- A refusal of the bytes so far is one of the whole file, whatever comes behind them.
+-- An error in the bytes so far is an error of the complete file, whatever follows.
 pub fed-refused : {S : Type 0} (add : S → List (List ℕ) → Result S RowWhy) (had : Fed S) (xs ys : List ℕ) (why : ReadErr)
     → fed_on add had xs ≡ Err why → after_lines add had.made had.line (lines_of (had.begun ++ (xs ++ ys))) ≡ Err why
 unfolding fed_on
@@ -141,7 +141,7 @@ fed-refused {S = S} add had xs ys why e = go (after_lines add had.made had.line 
         rw (← append_assoc had.begun xs ys, lines-whole (all ++ ys), whole-append all ys, append_assoc (whole_lines all) (whole_lines (begun_line all ++ ys)) (lines_of (begun_line (all ++ ys))))
         (after-refused add had.made had.line (whole_lines all) (whole_lines (begun_line all ++ ys) ++ lines_of (begun_line (all ++ ys))) why (is ∙ ap Err same))
 
--- bytes without an end join the line that is begun
+-- Bytes without an end join the unfinished line.
 pub fed-begun : {S : Type 0} (add : S → List (List ℕ) → Result S RowWhy) (had : Fed S) (xs : List ℕ) → has_end had.begun ≡ false → has_end xs ≡ false
     → fed_on add had xs ≡ Ok (record { made = had.made; begun = had.begun ++ xs; line = had.line })
 unfolding fed_on after_lines
@@ -150,7 +150,7 @@ fed-begun add had xs before none =
     let z : had.line + 0 ≡ had.line = omega arith in
     rw (no-whole (had.begun ++ xs) all, all-begun (had.begun ++ xs) all, z) refl
 
--- the last byte of lines that are whole is an end
+-- The last byte of complete lines is an end.
 ends-behind : (xs ys : List ℕ) → has_end ys ≡ true → begun_line (xs ++ ys) ≡ begun_line ys
 unfolding begun_line
 ends-behind [] ys some = refl
@@ -167,7 +167,7 @@ whole-ends (c ∷ ys) some e = elim (cases_Bool (has_end (c ∷ ys))) [
   | inr f ↦ cc (rw f at e)
 ]
 
--- whole lines behind the line that is begun
+-- Complete lines behind the unfinished line.
 pub fed-whole : {S : Type 0} (add : S → List (List ℕ) → Result S RowWhy) (had : Fed S) (xs : List ℕ) → 0 < length xs → begun_line xs ≡ []
     → fed_on add had xs ≡ fed_if (after_lines add had.made had.line (lines_of (had.begun ++ xs))) [] (had.line + length (lines_of (had.begun ++ xs)))
 unfolding fed_on lines_of
@@ -177,7 +177,7 @@ fed-whole add had xs some whole =
     let all : lines_of (had.begun ++ xs) ≡ whole_lines (had.begun ++ xs) = lines-whole (had.begun ++ xs) ∙ rw none (append-nil (whole_lines (had.begun ++ xs))) in
     rw (behind, all) refl
 
--- bytes without an end join the first line
+-- Bytes without an end join the first line.
 pub joined : (xs ys line rest : List ℕ) → has_end xs ≡ false → lines_of ys ≡ line ∷ lines_of rest → lines_of (xs ++ ys) ≡ (xs ++ line) ∷ lines_of rest
 unfolding lines_of
 joined [] ys line rest none e = e
@@ -186,7 +186,7 @@ joined (c ∷ xs) ys line rest none e = elim (cases_Bool (eqb c 10)) [
   | inr f ↦ rw (f, joined xs ys line rest (rw f at none) e) refl
 ]
 
--- bytes without an end are one line
+-- Bytes without an end are one line.
 pub one-line : (xs : List ℕ) → 0 < length xs → has_end xs ≡ false → lines_of xs ≡ xs ∷ []
 unfolding lines_of
 one-line [] some none = absurd (omega arith)
@@ -199,7 +199,7 @@ one-line (c ∷ d ∷ xs) some none = elim (cases_Bool (eqb c 10)) [
   | inr f ↦ rw (f, one-line (d ∷ xs) (omega arith) (rw f at none)) refl
 ]
 
--- The line that is begun, ended by the first of these lines, and then the others.
+-- The unfinished line, completed by the first of these lines, and then the others.
 pub whole-next : {S : Type 0} (add : S → List (List ℕ) → Result S RowWhy) (had mid : Fed S) (bytes line after : List ℕ)
     → has_end had.begun ≡ false → 0 < length bytes → begun_line bytes ≡ [] → lines_of bytes ≡ line ∷ lines_of after
     → fed_if (after_lines add had.made had.line ((had.begun ++ line) ∷ [])) [] (had.line + 1) ≡ Ok mid
@@ -220,7 +220,7 @@ fed-err : {S : Type 0} (o : Result S ReadErr) (begun : List ℕ) (line : ℕ) (w
 fed-err (Ok m) begun line why e = cc
 fed-err (Err w) begun line why e = cc
 
--- a refusal of the first line is one of all
+-- An error in the first line is an error of all.
 pub line-stops : {S : Type 0} (add : S → List (List ℕ) → Result S RowWhy) (had : Fed S) (bytes line after : List ℕ) (e : ReadErr)
     → has_end had.begun ≡ false → 0 < length bytes → begun_line bytes ≡ [] → lines_of bytes ≡ line ∷ lines_of after
     → Reads (fed_if (after_lines add had.made had.line ((had.begun ++ line) ∷ [])) [] (had.line + 1)) (Err e) → Reads (fed_on add had bytes) (Err e)
@@ -229,7 +229,7 @@ line-stops add had bytes line after (Row l why) none some whole first h =
     rw (fed-whole add had bytes some whole, joined had.begun bytes line after none first, after-refused add had.made had.line ((had.begun ++ line) ∷ []) (lines_of after) (Row l why) refused) refl
 line-stops add had bytes line after NoMemory none some whole first h = tt
 
--- a refusal of the first bytes is one of all
+-- An error in the first bytes is an error of all.
 pub bytes-stop : {S : Type 0} (add : S → List (List ℕ) → Result S RowWhy) (had : Fed S) (xs ys : List ℕ) (e : ReadErr)
     → Reads (fed_on add had xs) (Err e) → Reads (fed_on add had (xs ++ ys)) (Err e)
 unfolding fed_on
@@ -239,7 +239,7 @@ bytes-stop add had xs ys (Row l why) h =
     rw (← append_assoc had.begun xs ys, whole-append all ys, after-refused add had.made had.line (whole_lines all) (whole_lines (begun_line all ++ ys)) (Row l why) refused) refl
 bytes-stop add had xs ys NoMemory h = tt
 
--- an end is the last byte that is taken
+-- An end is the last byte that is taken.
 pub take-ends : (xs : List ℕ) (end : ℕ) → 0 < end → end ≤ length xs → get_or xs (end - 1) 0 ≡ 10 → begun_line (take end xs) ≡ []
 unfolding begun_line
 take-ends xs zero some h e = absurd (omega arith)
@@ -253,7 +253,7 @@ unfolding begun_line
 none-taken xs zero h = refl
 none-taken xs (suc n) h = absurd (omega arith)
 
--- one byte more that is no end
+-- One more byte that is no end.
 pub drop-before : (xs : List ℕ) (end : ℕ) → 0 < end → end ≤ length xs → (get_or xs (end - 1) 0 ≡ 10 → ⊥) → has_end (drop end xs) ≡ false → has_end (drop (end - 1) xs) ≡ false
 drop-before xs zero some h e none = absurd (omega arith)
 drop-before xs (suc n) some h e none =
@@ -266,7 +266,7 @@ none-before [] (suc i) none = refl
 none-before (x ∷ xs) zero none = refl
 none-before (x ∷ xs) (suc i) none = rw (ne_eqb x 10 (none 0 (omega arith)), none-before xs i (λ k l. none (suc k) (omega arith))) refl
 
--- the number of the line behind some lines, by the first of them
+-- The line number after some lines, by the first of them.
 pub counts-next : (number : ℕ) (bytes line rest : List ℕ) → lines_of bytes ≡ line ∷ lines_of rest → number + 1 + length (lines_of rest) ≡ number + length (lines_of bytes)
 counts-next number bytes line rest e =
     let z : number + suc (length (lines_of rest)) ≡ number + 1 + length (lines_of rest) = omega arith in
@@ -276,7 +276,7 @@ pub counts-none : (number : ℕ) → number + length (lines_of []) ≡ number
 unfolding lines_of
 counts-none number = omega arith
 
--- what the last line makes, read as lines
+-- The effect of the last line, read as lines.
 pub end-is : {S : Type 0} (add : S → List (List ℕ) → Result S RowWhy) (s : S) (xs : List ℕ) (n : ℕ) (begun : List ℕ) (m : ℕ) (has : Fed S)
     → fed_if (after_lines add s n (lines_of xs)) begun m ≡ Ok has → finished add (record { made = s; begun = xs; line = n }) ≡ Ok has.made
 unfolding finished

@@ -1,4 +1,4 @@
--- A refusal, or want of memory, passes on.
+-- Errors and lack of memory propagate.
 use Rattle.std.proofs.Common.{◌≡◌, ◌∙◌, ◌<◌, ◌+◌, ◌∷◌, ℕ, List, Result, Err, ap, refl, length, get_or, drop}
 use Rattle.constraint_files.specs.Records.{after_lines, after_records, line_records, lines_of, past_line}
 use Rattle.constraint_files.proofs.LineLemmas.{after-next, line-next}
@@ -13,19 +13,19 @@ pub takes-on : {A B : Type 0} (f : A → Result B RowWhy) (o : Result A RowWhy) 
 takes-on f o (Refused why) h = rw h refl
 takes-on f o NoMemory h = tt
 
--- a call that takes a value or not, then one that changes the state
+-- A call that may fail, then one that changes the state.
 pub changes-on : {A S : Type 0} (f : A → Result S RowWhy) (o : Result A RowWhy) (new : S) (e : RowErr) → Takes o (Err e) → Changes (o >>= f) new (Err e)
 changes-on f o new (Refused why) h = rw h refl
 changes-on f o new NoMemory h = tt
 
--- a record that is refused refuses all from it on
+-- An error of a record is the error of all records from it on.
 pub stops : {S : Type 0} (add : S → List (List ℕ) → Result S RowWhy) (state new : S) (rs : List (List (List ℕ))) (i : ℕ) (r : List (List ℕ)) (e : RowErr) → i < length rs → r ≡ get_or rs i r
     → Changes (add state r) new (Err e) → Changes (after_records add state (drop i rs)) new (Err e)
 stops add state new rs i r (Refused why) h is refused =
     after-next add state rs i r h is ∙ ap (λ o. o >>= (λ next. after_records add next (drop (i + 1) rs))) refused
 stops add state new rs i r NoMemory h is refused = tt
 
--- a line that is refused refuses all from it on
+-- An error of a line is the error of all lines from it on.
 pub stops-all : {S : Type 0} (add : S → List (List ℕ) → Result S RowWhy) (state : S) (number : ℕ) (bytes line rest : List ℕ) (why : RowWhy) → lines_of bytes ≡ line ∷ lines_of rest
     → after_records add state (line_records line) ≡ Err why → after_lines add state number (lines_of bytes) ≡ Err (Row number why)
 stops-all add state number bytes line rest why first refused =

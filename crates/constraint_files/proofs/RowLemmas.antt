@@ -10,7 +10,7 @@ use Rattle.constraint_files.specs.Numbers.{number, numbers}
 use Rattle.constraint_files.specs.Rows.{interference_row, offset_of, row_on}
 use Rattle.pack_defs.specs.Steps.{◌>>=◌}
 
--- the row of these numbers, if each is there
+-- The row of these numbers, if each exists.
 abbrev pub row_by : Offset → Option ℕ → Option ℕ → Option ℕ → Option (List ℕ) → Result Row RowWhy
 row_by offset a b s others =
     ok_or a BadNumber >>= (λ m. ok_or b BadNumber >>= (λ n. ok_or s BadNumber >>= (λ f. ok_or others BadNumber >>= row_on offset m n f)))

@@ -1,4 +1,4 @@
--- Lines that are read at once: what their records make is what they make line by line.
+-- Lines that are read at once: the effect of their records is the effect line by line.
 use Rattle.std.proofs.Common.{◌≡◌, ◌∙◌, ◌<◌, ◌≤◌, ◌+◌, ◌-◌, ◌∷◌, ◌++◌, ◌||◌, ◌⊎◌, [], ℕ, List, Bool, Result, Ok, Err, true, false, not, refl, sym, arith, append_assoc, length, filter, map, eqb, inl, inr}
 use Rattle.std.specs.List.{flat_map, list_all}
 use Rattle.std.proofs.lemmas.Bool.{and_from, and_parts, cases_Bool, le-ltb, lt-ltb}
@@ -16,7 +16,7 @@ use Rattle.constraint_files.specs.declared.plain_lines.RunErr.{RunErr}
 use Rattle.constraint_files.specs.declared.plain_lines.RunErr.TheVariants.{NoMemory, Refused}
 use Rattle.constraint_files.proofs.CsvLemmas.{records-rows, rows, rows-next, rows-of-lines, rows_from}
 
--- two runs of records, one after the other
+-- Two runs of records, one after the other.
 pub raws-bind : {S : Type 0} (add : S → List (List ℕ) → Result S RowWhy) (s : S) (xs ys : List (List (List ℕ)))
     → after_raws add s (xs ++ ys) ≡ (after_raws add s xs >>= (λ m. after_raws add m ys))
 unfolding after_raws
@@ -33,7 +33,7 @@ pub raws-more : {S : Type 0} (add : S → List (List ℕ) → Result S RowWhy) (
 unfolding after_raws
 raws-more add s m t done r taken is = rw (raws-bind add s done (r ∷ []), taken, is) refl
 
--- a record that is not added ends the run, as the first that is refused or by want of memory
+-- A record that is not added ends the run: it is invalid, or memory ran out.
 pub next-stops : {S : Type 0} (add : S → List (List ℕ) → Result S RowWhy) (s m new : S) (raws done left : List (List (List ℕ))) (r : List (List ℕ)) (before : ℕ) (e : RunErr)
     → raws ≡ done ++ (r ∷ left) → length done ≡ before → after_raws add s done ≡ Ok m → RunsNext add m r before new (Err e) → Runs add s raws (Err e)
 next-stops add s m new raws done left r before (Refused n why) all count taken h =
@@ -45,7 +45,7 @@ raws-refused : {S : Type 0} (add : S → List (List ℕ) → Result S RowWhy) (s
 unfolding after_raws
 raws-refused add s m done left r why taken is = rw (raws-bind add s done (r ∷ left), taken, is) refl
 
--- the records of a line, with and without those that have no field
+-- The records of a line, with and without those that have no field.
 raws-records : {S : Type 0} (add : S → List (List ℕ) → Result S RowWhy) (s : S) (raws : List (List (List ℕ)))
     → after_records add s (filter (λ r. not (is_empty r)) (map kept_fields raws)) ≡ after_raws add s raws
 unfolding after_records after_raws
@@ -60,7 +60,7 @@ raws-records {S = S} add s (r ∷ rs) = elim (cases_Bool (is_empty (kept_fields 
     go (Err why) later = refl
     go (Ok m) later = later m
 
--- lines whose records are all taken
+-- Lines whose records are all added.
 pub lines-added : {S : Type 0} (add : S → List (List ℕ) → Result S RowWhy) (s t : S) (n : ℕ) (lines : List (List ℕ))
     → after_raws add s (flat_map raw_records lines) ≡ Ok t → after_lines add s n lines ≡ Ok t
 unfolding after_lines after_raws
@@ -76,7 +76,7 @@ lines-added {S = S} add s t n (line ∷ lines) e =
     go (Err why) later h = cc
     go (Ok m) later h = later m h
 
--- where a record stands: in the first of two lists, or in the second
+-- The place of a record: in the first of two lists, or in the second.
 split : (xs ys done left : List (List (List ℕ))) (r : List (List ℕ)) → xs ++ ys ≡ done ++ (r ∷ left)
     → ((more : List (List (List ℕ))) × (xs ≡ done ++ (r ∷ more))) ⊎ ((rest : List (List (List ℕ))) × (done ≡ xs ++ rest) × (ys ≡ rest ++ (r ∷ left)))
 split [] ys done left r e = inr (done, refl, e)
@@ -91,7 +91,7 @@ split (x ∷ xs) ys (d ∷ done) left r e =
       | inr q ↦ inr (q.0, rw (same, q.1) refl, q.2)
     ]
 
--- the line of a record, by the first line
+-- The line of a record, by the first line.
 pub line_at-stops : (n before : ℕ) (line : List ℕ) (lines : List (List ℕ)) → before < length (raw_records line) → line_number_at n before (line ∷ lines) ≡ n
 unfolding line_number_at
 line_at-stops n before line lines h = rw (lt-ltb before (length (raw_records line)) h) refl
@@ -109,7 +109,7 @@ no-rows : (done left : List (List (List ℕ))) (r : List (List ℕ)) → [] ≡ 
 no-rows [] left r e = cc
 no-rows (d ∷ done) left r e = cc
 
--- lines of which a record is refused
+-- Lines with an invalid record.
 lines-stop : {S : Type 0} (add : S → List (List ℕ) → Result S RowWhy) (s m : S) (n : ℕ) (lines : List (List ℕ)) (done left : List (List (List ℕ))) (r : List (List ℕ)) (why : RowWhy)
     → flat_map raw_records lines ≡ done ++ (r ∷ left) → after_raws add s done ≡ Ok m → after_raw add m r ≡ Err why
     → after_lines add s n lines ≡ Err (Row (line_number_at n (length done) lines) why)
@@ -133,7 +133,7 @@ lines-stop {S = S} add s m n (line ∷ lines) done left r why all taken is = eli
     go rest (Err w) later h = cc
     go rest (Ok k) later h = later k h
 
--- no mark stands at the start of plain bytes
+-- Plain bytes do not begin with a byte order mark.
 strip-none : (xs : List ℕ) → is_plain xs ≡ true → strip_bom xs ≡ xs
 unfolding strip_bom
 strip-none [] plain = refl
@@ -156,7 +156,7 @@ plain-quotes (c ∷ xs) plain =
     no-quote true m e = cc
     no-quote false m e = refl
 
--- the lines of plain bytes are plain
+-- The lines of plain bytes are plain.
 lines-plain : (xs : List ℕ) → is_plain xs ≡ true → list_all is_plain (lines_of xs) ≡ true
 unfolding lines_of
 lines-plain [] plain = refl
@@ -191,7 +191,7 @@ pub plain-stops : {S : Type 0} (add : S → List (List ℕ) → Result S RowWhy)
 plain-stops add s n before bytes why plain h =
     rw (← h.count) (lines-stop add s h.made n (lines_of bytes) h.done h.left h.refused why (sym (plain-lines bytes plain) ∙ h.all) h.taken h.is)
 
--- the records that were reached are the first of all
+-- The records reached so far are the first of all records.
 reached-rows : (s t : State) (xs ys : List ℕ) (done : List (List (List ℕ))) → Reached default_config s xs done t ys → rows_from s [] [] xs ≡ done ++ rows_from t [] [] ys
 unfolding Reached
 reached-rows s t xs ys [] h = rw (h.0, h.1) refl

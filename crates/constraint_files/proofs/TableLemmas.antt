@@ -10,11 +10,11 @@ use Rattle.std.proofs.lemmas.Cmp.{by_ranked, ranked}
 use Rattle.pack_defs.specs.declared.domain.Domain.{Domain}
 use Rattle.constraint_files.specs.Domains.{channels_of, with_domain}
 
--- an entry of the table as a domain
+-- An entry of the table as a domain.
 abbrev pub as_domain : ℕ × List ℕ → Domain
 as_domain e = record { station = e.0; channels = e.1 }
 
--- the station of an entry is s, or comes after it, or before it
+-- The station of an entry is s, or comes after s, or before s.
 abbrev Ranks : ℕ → ℕ → Ordering → Type 0
 Ranks s x Less = (eqb x s ≡ false) × (ltb x s ≡ false)
 Ranks s x Equal = (eqb x s ≡ true)
@@ -26,7 +26,7 @@ ranks s x = by_ranked (s < x) (s ≡ x) (x < s) (nat_cmp s x) (ranked s x (nat_c
     (λ is same. rw is (eq-eqb x s (sym same)))
     (λ is above. rw is (ne_eqb x s (λ e. absurd (omega arith)), lt-ltb x s above))
 
--- a station has a row exactly where the table has its entry
+-- A station has a row exactly if the table has its entry.
 pub has-row : (es : List (ℕ × List ℕ)) (s : ℕ) → is_some (channels_of (map as_domain es) s) ≡ is_some (lookup (is_at (nat_cmp s)) es)
 has-row [] s = refl
 has-row (e ∷ es) s = go (nat_cmp s e.0) refl (ranks s e.0) (has-row es s)
@@ -37,7 +37,7 @@ has-row (e ∷ es) s = go (nat_cmp s e.0) refl (ranks s e.0) (has-row es s)
     go Equal is r later = rw (is, r) refl
     go Greater is r later = rw (is, r.0) later
 
--- a new entry goes where a new domain goes
+-- A new entry goes where a new domain goes.
 pub with-row : (es : List (ℕ × List ℕ)) (s : ℕ) (v : List ℕ) → is_some (lookup (is_at (nat_cmp s)) es) ≡ false
     → map as_domain (insert_entry nat_cmp es s v) ≡ with_domain (as_domain (s, v)) (map as_domain es)
 with-row [] s v none = refl

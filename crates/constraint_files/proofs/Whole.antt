@@ -1,4 +1,4 @@
--- The records that were reached up to the end of a text are `records` of the text.
+-- The records reached up to the end of a text are `records` of the text.
 use Rattle.std.proofs.Common.{◌≡◌, ◌<◌, ◌≤◌, ◌+◌, ◌∷◌, ◌++◌, [], ℕ, List, Some, None, refl, ap, arith, zero, suc, length}
 use Rattle.std.proofs.Common.{inl, inr}
 use Rattle.std.proofs.lemmas.Bool.{cases_Bool}
@@ -11,7 +11,7 @@ use Rattle.csv.specs.declared.parser.State.TheVariants as st
 pub some_is : {A : Type 0} (a b : A) → Some a ≡ Some b → a ≡ b
 some_is a b e = cc
 
--- a read leaves no more than there was
+-- A read leaves no more bytes than it was given.
 reads-le : (cfg : Config) (s : State) (fields : List (List ℕ)) (field xs : List ℕ) (p : Read) → next_record cfg s fields field xs ≡ Some p → length p.2 ≤ length xs
 unfolding next_record
 reads-le cfg s fields field [] p e = elim (cases_Bool (ends_at_end s)) [
@@ -23,7 +23,7 @@ reads-le cfg s fields field (c ∷ rest) p e = elim (cases_Bool (is_end (step cf
   | inr f ↦ let le = reads-le cfg (step cfg s c).0 (fields_after (step cfg s c).1 fields field) (field_after (step cfg s c).1 c field) rest p (rw f at e) in omega arith
 ]
 
--- a read of some bytes leaves fewer
+-- A read of some bytes leaves fewer.
 pub reads-less : (cfg : Config) (s : State) (c : ℕ) (rest : List ℕ) (p : Read) → next_record cfg s [] [] (c ∷ rest) ≡ Some p → length p.2 ≤ length rest
 unfolding next_record
 reads-less cfg s c rest p e = elim (cases_Bool (is_end (step cfg s c).1)) [
@@ -31,7 +31,7 @@ reads-less cfg s c rest p e = elim (cases_Bool (is_end (step cfg s c).1)) [
   | inr f ↦ reads-le cfg (step cfg s c).0 (fields_after (step cfg s c).1 [] []) (field_after (step cfg s c).1 c []) rest p (rw f at e)
 ]
 
--- a read at the end leaves the start of a record
+-- A read at the end leaves the machine at the start of a record.
 pub reads-end : (cfg : Config) (s : State) (p : Read) → next_record cfg s [] [] [] ≡ Some p → (p.1 ≡ st.StartRecord) × (p.2 ≡ [])
 unfolding next_record
 reads-end cfg s p e = elim (cases_Bool (ends_at_end s)) [

@@ -1,4 +1,4 @@
--- What a domains file says: the channels of each station.
+-- The contents of a domains file: the channels of each station.
 use Rattle.std.specs.Prelude.{ℕ, ◌==◌, nat_le, nat_lt, if◌then◌else◌, List, [], ◌∷◌, filter, length, Option, Some, None, Result, Ok, Err, codes}
 use Rattle.std.specs.List.{list_all, range_with_len}
 use Rattle.std.specs.Option.{is_some, ok_or}
@@ -14,59 +14,58 @@ use Rattle.constraint_files.specs.declared.error.ReadErr.{ReadErr}
 use Rattle.constraint_files.specs.declared.error.RowWhy.{RowWhy}
 use Rattle.constraint_files.specs.declared.error.RowWhy.TheVariants.{ShortRow, BadKey, BadNumber, ChannelRange, SecondDomain, TooMany}
 
--- the channels that a domain may keep: 14 to 51
+-- The channels that a domain may have: 14 to 51.
 unfoldable pub channels_to_keep : List ℕ
 channels_to_keep = range_with_len LEAST_CHANNEL 38
 
--- the channels that a domain keeps of those that its row names, ascending, each once
+-- The channels that a domain keeps among those that its row names, ascending, each once.
 abbrev pub kept_channels : List ℕ → List ℕ
 kept_channels named = filter (λ c. is_in named c) channels_to_keep
 
--- the domain of a station whose row names these channels
+-- The domain of a station whose row names these channels.
 abbrev pub domain_naming : ℕ → List ℕ → Result Domain RowWhy
 domain_naming station named =
     if list_all is_channel named then Ok (record { station = station; channels = kept_channels named }) else Err ChannelRange
 
--- the domain of these fields
+-- The domain of these fields.
 abbrev pub domain_from : List ℕ → List (List ℕ) → Result Domain RowWhy
 domain_from facility channels = do
   station ← ok_or (number facility) BadNumber
   named ← ok_or (numbers channels) BadNumber
   domain_naming station named
 
--- the domain that a record gives: `DOMAIN,facility,channel,...`
+-- The domain of a record: `DOMAIN,facility,channel,...`.
 unfoldable pub domain_row : List (List ℕ) → Result Domain RowWhy
 domain_row (key ∷ facility ∷ channels) = if bytes_eq key (codes "DOMAIN") then domain_from facility channels else Err BadKey
 domain_row _ = Err ShortRow
 
--- the channels of a station, if it has a row
+-- The channels of a station, if it has a row.
 abbrev pub channels_of : List Domain → ℕ → Option (List ℕ)
 channels_of [] s = None
 channels_of (d ∷ ds) s = if d.station == s then Some d.channels else channels_of ds s
 
--- the domains with one more, in its place by station
+-- The domains with one more, in its place by station.
 abbrev pub with_domain : Domain → List Domain → List Domain
 with_domain d [] = d ∷ []
 with_domain d (e ∷ es) = if nat_lt e.station d.station then e ∷ with_domain d es else d ∷ e ∷ es
 
--- the same, if the station has no row yet and the rows are fewer than 65,536
+-- The domains with one more, if its station has no row yet and the rows are fewer than 65,536.
 abbrev pub put_domain : List Domain → Domain → Result (List Domain) RowWhy
 put_domain domains d =
     if is_some (channels_of domains d.station) then Err SecondDomain
     else if nat_le MOST_DOMAIN_ROWS (length domains) then Err TooMany
     else Ok (with_domain d domains)
 
--- the domains with that of a record
+-- The domains with the domain of a record.
 abbrev pub add_domain_row : List Domain → List (List ℕ) → Result (List Domain) RowWhy
 add_domain_row domains fields = do
   d ← domain_row fields
   put_domain domains d
 
--- the domains of a file, or its first refusal
+-- The domains of a file, or its first error.
 unfoldable pub domains_of : List ℕ → Result (List Domain) ReadErr
 domains_of bytes = after_lines add_domain_row [] 1 (lines_of bytes)
 
--- What a reader of domains has that is fed these bytes, in whatever pieces, or the first refusal in a line that is whole by
--- then.
+-- The state of a reader of domains after these bytes, in whatever pieces, or the first error in a line that is complete by then.
 unfoldable pub domains_fed : List ℕ → Result (Fed (List Domain)) ReadErr
 domains_fed bytes = fed_on add_domain_row (record { made = []; begun = []; line = 1 }) bytes

@@ -6,18 +6,18 @@ use Rattle.pack_defs.specs.declared.limits.TheConstants.{GREATEST_CHANNEL}
 use Rattle.pack_defs.specs.Lists.{is_empty}
 use Rattle.std.specs.Option.{option_and_then}
 
--- the number of a field: one or more ASCII digits, leading zeros allowed, at most 2^32 - 1
+-- The number of a field: one or more ASCII digits, leading zeros allowed, at most 2^32 - 1.
 unfoldable pub number : List ℕ → Option ℕ
 number field =
     if not (is_empty field) && (all_ascii_digits field && nat_le (digits_value 10 field) 4294967295)
     then Some (digits_value 10 field)
     else None
 
--- the numbers of some fields, if each has one
+-- The numbers of some fields, if each is a number.
 unfoldable pub numbers : List (List ℕ) → Option (List ℕ)
 numbers [] = Some []
 numbers (field ∷ fields) = option_and_then (λ n. option_and_then (λ ns. Some (n ∷ ns)) (numbers fields)) (number field)
 
--- a channel that a file may name
+-- Whether a file may name the channel.
 abbrev pub is_channel : ℕ → Bool
 is_channel c = nat_le 2 c && nat_le c GREATEST_CHANNEL

@@ -1,4 +1,4 @@
--- The lines of a file, the records of its lines, and what they make of a state.
+-- The lines of a file, the records of its lines, and their effect on a state.
 use Rattle.std.specs.Prelude.{ℕ, Bool, not, List, [], ◌∷◌, map, filter, reverse, Result, Ok, Err, ◌+◌, ◌==◌, ◌||◌, if◌then◌else◌}
 use Rattle.csv.specs.Reading.{default_config, records, strip_bom}
 use Rattle.pack_defs.specs.Lists.{is_empty}
@@ -7,57 +7,56 @@ use Rattle.constraint_files.specs.declared.error.ReadErr.{ReadErr}
 use Rattle.constraint_files.specs.declared.error.ReadErr.TheVariants.{Row}
 use Rattle.constraint_files.specs.declared.error.RowWhy.{RowWhy}
 
--- a byte more at the start of the first of these lines
+-- The lines with one more byte at the start of the first line, or a line of this byte.
 abbrev pub onto_first : ℕ → List (List ℕ) → List (List ℕ)
 onto_first c [] = (c ∷ []) ∷ []
 onto_first c (line ∷ lines) = (c ∷ line) ∷ lines
 
--- The lines of some bytes, each of which a byte 0A ends. Bytes after the last 0A are a line too.
+-- The lines of some bytes. The byte 0A ends a line; bytes after the last 0A are a line too.
 unfoldable pub lines_of : List ℕ → List (List ℕ)
 lines_of [] = []
 lines_of (c ∷ rest) = if c == 10 then [] ∷ lines_of rest else onto_first c (lines_of rest)
 
--- a space or a tab
+-- Whether the byte is a space or a tab.
 abbrev pub is_blank : ℕ → Bool
 is_blank c = c == 32 || c == 9
 
--- the items from the first one on that doesn't pass
+-- The items from the first one on that doesn't pass.
 abbrev pub without_leading : {A : Type 0} → (A → Bool) → List A → List A
 without_leading p [] = []
 without_leading p (x ∷ xs) = if p x then without_leading p xs else x ∷ xs
 
--- the items up to the last one that doesn't pass
+-- The items up to the last one that doesn't pass.
 unfoldable pub without_trailing : {A : Type 0} → (A → Bool) → List A → List A
 without_trailing p xs = reverse (without_leading p (reverse xs))
 
--- a field without the blanks round it
+-- A field without the blanks around it.
 abbrev pub trimmed : List ℕ → List ℕ
 trimmed field = without_trailing is_blank (without_leading is_blank field)
 
--- the fields of a record without the blanks round them, and without the empty ones at its end
+-- The fields of a record without the blanks around them, and without the empty ones at its end.
 abbrev pub kept_fields : List (List ℕ) → List (List ℕ)
 kept_fields fields = without_trailing is_empty (map trimmed fields)
 
--- The records of one line by itself, each a list of fields, but for those without a field. A byte order mark at its
--- start is dropped.
+-- The records of one line by itself, each a list of fields, except those without a field. A byte order mark at the line's start is
+-- dropped.
 abbrev pub line_records : List ℕ → List (List (List ℕ))
 line_records line = filter (λ r. not (is_empty r)) (map kept_fields (records default_config (strip_bom line)))
 
--- What these records make of a state, where `add` says what one makes of it, or why it is refused. One that is refused
--- refuses all.
+-- The state after these records, where `add` is the state after one record or its error. The first error is the error of all.
 unfoldable pub after_records : {S : Type 0} → (S → List (List ℕ) → Result S RowWhy) → S → List (List (List ℕ)) → Result S RowWhy
 after_records add state [] = Ok state
 after_records add state (r ∷ rs) = do
   next ← add state r
   after_records add next rs
 
--- what comes after a line, or the refusal of this line
+-- What comes after a line, or the error of this line.
 abbrev pub past_line : {S : Type 0} → ℕ → Result S RowWhy → (S → Result S ReadErr) → Result S ReadErr
 past_line line (Ok next) rest = rest next
 past_line line (Err why) rest = Err (Row line why)
 
--- What the records of these lines make of a state. The first line has this number. The first record that is refused
--- refuses all, with its line's number.
+-- The state after the records of these lines; the first line has this number. The first invalid record is the error of all, with its line
+-- number.
 unfoldable pub after_lines : {S : Type 0} → (S → List (List ℕ) → Result S RowWhy) → S → ℕ → List (List ℕ) → Result S ReadErr
 after_lines add state number [] = Ok state
 after_lines add state number (line ∷ lines) =

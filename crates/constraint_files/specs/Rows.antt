@@ -1,4 +1,4 @@
--- What a rows file says: the pairs that interfere.
+-- The contents of a rows file (ROWS, in the layout of Interference_Paired.csv): the pairs that interfere.
 use Rattle.std.specs.Prelude.{ℕ, ◌+◌, ◌==◌, ◌&&◌, nat_lt, if◌then◌else◌, IsTrue, List, [], ◌∷◌, fold, length, Option, Some, None, Result, Ok, Err, codes}
 use Rattle.std.specs.List.{list_all}
 use Rattle.std.specs.Option.{ok_or}
@@ -19,7 +19,7 @@ use Rattle.constraint_files.specs.Pieces.{Fed, fed_on}
 use Rattle.constraint_files.specs.Records.{lines_of, after_lines}
 use Rattle.pack_defs.specs.Steps.{◌>>=◌}
 
--- how far the second channel of a row stands above the first, or below it, by the row's key
+-- How far the second channel of a row is above the first, or below it, by the row's key.
 abbrev pub offset_of : List ℕ → Option Offset
 offset_of key =
     if bytes_eq key (codes "CO") then Some (record { above = 0; below = 0 })
@@ -29,7 +29,7 @@ offset_of key =
     else if bytes_eq key (codes "ADJ-2") then Some (record { above = 0; below = 2 })
     else None
 
--- the row of these numbers, if a and b are channels and b is as far from a as the key says
+-- The row of these numbers, if a and b are channels and b is as far from a as the key says.
 abbrev pub row_on : Offset → ℕ → ℕ → ℕ → List ℕ → Result Row RowWhy
 row_on offset a b s others =
     if is_channel a && is_channel b
@@ -38,7 +38,7 @@ row_on offset a b s others =
     else Err BadOffset)
     else Err ChannelRange
 
--- the row of these fields
+-- The row of these fields.
 abbrev pub row_of_fields : Offset → List ℕ → List ℕ → List ℕ → List (List ℕ) → Result Row RowWhy
 row_of_fields offset a b s others = do
   channel ← ok_or (number a) BadNumber
@@ -47,30 +47,30 @@ row_of_fields offset a b s others = do
   ts ← ok_or (numbers others) BadNumber
   row_on offset channel other_channel station ts
 
--- the row that a record gives: `KEY,a,b,s,t,...`
+-- The row of a record: `KEY,a,b,s,t,...`.
 unfoldable pub interference_row : List (List ℕ) → Result Row RowWhy
 interference_row (key ∷ a ∷ b ∷ s ∷ others) = do
   offset ← ok_or (offset_of key) BadKey
   row_of_fields offset a b s others
 interference_row _ = Err ShortRow
 
--- the pair of s on channel a and t on channel b, with the lesser station first
+-- The pair of s on channel a and t on channel b, with the lesser station first.
 abbrev pub pair_of : ℕ → ℕ → ℕ → ℕ → Pair
 pair_of s a t b = if nat_lt s t then record { f = s; a = a; g = t; b = b } else record { f = t; a = b; g = s; b = a }
 
--- the pairs with one more, in its place, once
+-- The pairs with one more, in its place, once.
 abbrev pub with_pair : List Pair → Pair → List Pair
 with_pair [] p = p ∷ []
 with_pair (q ∷ qs) p = if comes_before q p then q ∷ with_pair qs p else (if comes_before p q then p ∷ q ∷ qs else q ∷ qs)
 
--- What rows say: the pairs that are kept; how many fields name their row's own station; and how many others stand where
--- one of the two stations has no domain row.
+-- The contents of rows: the kept pairs, the number of fields that name their row's own station, and the number of other fields for
+-- which one of the two stations has no domain row.
 pub record PairsView : Type 0 where
   pub list : List Pair
   pub self_pairs : ℕ
   pub strangers : ℕ
 
--- the same with the pair of a row's station and t, where each of the two has its channel in its domain
+-- The contents with the pair of a row's station and t, if each of the two has its channel in its domain.
 abbrev pub with_kept : Option (List ℕ) → Option (List ℕ) → Row → PairsView → ℕ → PairsView
 with_kept None theirs row told t = record { list = told.list; self_pairs = told.self_pairs; strangers = told.strangers + 1 }
 with_kept (Some own) None row told t = record { list = told.list; self_pairs = told.self_pairs; strangers = told.strangers + 1 }
@@ -79,45 +79,45 @@ with_kept (Some own) (Some theirs) row told t =
     then record { list = with_pair told.list (pair_of row.station row.channel t row.other_channel); self_pairs = told.self_pairs; strangers = told.strangers }
     else told
 
--- the same with what a row says of its station and t
+-- The contents with what a row says about its station and t.
 abbrev pub with_other : List Domain → Row → PairsView → ℕ → PairsView
 with_other domains row told t =
     if t == row.station
     then record { list = told.list; self_pairs = told.self_pairs + 1; strangers = told.strangers }
     else with_kept (channels_of domains row.station) (channels_of domains t) row told t
 
--- the same, if the pairs are at most 4,000,000
+-- The contents, if the pairs are at most 4,000,000.
 abbrev pub if_few : PairsView → Result PairsView RowWhy
 if_few told = if nat_lt MOST_PAIRS (length told.list) then Err TooMany else Ok told
 
--- the same with what a record says
+-- The contents with a record.
 abbrev pub add_row : List Domain → PairsView → List (List ℕ) → Result PairsView RowWhy
 add_row domains told fields = do
   row ← interference_row fields
   if_few (fold (with_other domains row) told row.others)
 
--- the pairs of a file and its counts, over these domains, or its first refusal
+-- The pairs of a file and its counts, over these domains, or its first error.
 unfoldable pub pairs_of : List ℕ → List Domain → Result PairsView ReadErr
 pairs_of bytes domains = after_lines (add_row domains) (record { list = []; self_pairs = 0; strangers = 0 }) 1 (lines_of bytes)
 
--- what the rows so far say, and the domains that they are read over
+-- The contents of the rows so far, and the domains over which they are read.
 pub record RowsView : Type 0 where
   pub domains : List Domain
   pub told : PairsView
 
--- the same with what a record says
+-- The contents and domains with a record.
 abbrev pub add_row_over : RowsView → List (List ℕ) → Result RowsView RowWhy
 add_row_over rows fields = do
   told ← add_row rows.domains rows.told fields
   Ok (record { domains = rows.domains; told = told })
 
--- What a reader of rows over these domains has that is fed these bytes, in whatever pieces, or the first refusal in a line
--- that is whole by then.
+-- The state of a reader of rows over these domains after these bytes, in whatever pieces, or the first error in a line that is complete
+-- by then.
 unfoldable pub pairs_fed : List ℕ → List Domain → Result (Fed RowsView) ReadErr
 pairs_fed bytes domains =
     fed_on add_row_over (record { made = record { domains = domains; told = record { list = []; self_pairs = 0; strangers = 0 } }; begun = []; line = 1 }) bytes
 
--- the pairs of a list ascend, and each is of two stations
+-- The pairs of a list ascend, and each has two different stations.
 pub record ArePairs (pairs : List Pair) : Type 0 where
   pub ascend : IsTrue (pairs_ascend pairs)
   pub of_two : IsTrue (list_all is_of_two pairs)

@@ -17,7 +17,7 @@ use std::alloc::{AllocError as NoMemory, Global};
 /// The first field of each record of a domains file.
 const KEY: &[u8] = b"DOMAIN";
 
-/// Which channels these numbers name, if each is a channel.
+/// Returns flags for the channels that the numbers name, or `None` if some number is no channel.
 fn named_channels(numbers: &[u32]) -> Option<[bool; 52]>
     ensures { MatchOption result (list_all is_channel numbers.now ≡ false)
         (λ flags. (list_all is_channel numbers.now ≡ true) × ((c : ℕ) → c < 52 → slice_index_or flags c false ≡ is_in numbers.now c)) }
@@ -29,7 +29,7 @@ fn named_channels(numbers: &[u32]) -> Option<[bool; 52]>
     Some(is_named)
 }
 
-/// The channels from 14 up among those that are named, ascending.
+/// Returns the named channels from 14 up, ascending.
 fn kept_channels(alloc: Global, is_named: &[bool]) -> Result<Items<u8>, NoMemory>
     requires { length is_named.now ≡ 52 }
     ensures { IfOk result (λ kept. kept ≡ filter (λ c. slice_index_or is_named.now c false) channels_to_keep) }
@@ -43,7 +43,10 @@ fn kept_channels(alloc: Global, is_named: &[bool]) -> Result<Items<u8>, NoMemory
     Ok(Items::from_vec(kept))
 }
 
-/// The domain of a station whose row names these channels.
+/// Returns the domain of a station whose row names these channels.
+///
+/// # Errors
+/// Fails if some number is no channel, or memory runs out.
 fn domain_naming(alloc: Global, station: u32, named: &[u32]) -> Result<Domain, RowErr>
     ensures { Takes (domain_naming station named.now) result }
 {
@@ -56,7 +59,10 @@ fn domain_naming(alloc: Global, station: u32, named: &[u32]) -> Result<Domain, R
     })
 }
 
-/// The domain that a record gives: `DOMAIN,facility,channel,...`.
+/// Returns the domain of a record: `DOMAIN,facility,channel,...`.
+///
+/// # Errors
+/// Fails with the record's first error, or if memory runs out.
 pub(crate) fn domain_row(alloc: Global, fields: &CsvRecord) -> Result<Domain, RowErr>
     ensures { Takes (domain_row fields.now) result }
 {

@@ -39,7 +39,7 @@ impl DomainTable {
         }
     }
 
-    /// Adds the domain of a station that has none yet, where the rows aren't too many. After an error the table is lost.
+    /// Adds the domain of a station that has none yet, if the rows are not too many. After an error the table is unusable.
     fn put(&mut self, domain: Domain) -> Result<(), RowErr>
         ensures { Changes (put_domain self.old domain) self.new result }
     {
@@ -54,7 +54,7 @@ impl DomainTable {
         Ok(())
     }
 
-    /// The domains, ascending by station.
+    /// Returns the domains, ascending by station.
     pub(crate) fn into_list(self, alloc: Global) -> Result<Vec<Domain>, NoMemory>
         ensures { IfOk result (λ v. v.items ≡ self) }
     {

@@ -1,4 +1,6 @@
 //! The reader of a domains file: from its bytes to the stations and their channels.
+//!
+//! `DomainReader` reads a file in pieces, `read_domains` a file in memory.
 
 ghost use Rattle.std.specs.Prelude.{◌≡◌, ◌++◌, [], ℕ, IfOk, List, Ok};
 ghost use Rattle.std.specs.Option.{option_map};
@@ -32,7 +34,7 @@ impl Model for Domains {
 }
 
 impl Domains {
-    /// The domains, ascending by station. The channels of each ascend.
+    /// Returns the domains, ascending by station. The channels of each domain ascend.
     pub fn list(&self) -> &[Domain]
         ensures list { result.now ≡ self.now }
         ensures in_order { AreInOrder self.now }
@@ -40,7 +42,7 @@ impl Domains {
         &self.list
     }
 
-    /// The channels of a station, or none where the file has no row of it. The search is by halves.
+    /// Returns the channels of a station, or `None` if the file has no row of the station. Costs one binary search.
     pub fn domain(&self, f: u32) -> Option<&[u8]>
         ensures { option_map (λ c. c.now) result ≡ channels_of self.now f }
     {
@@ -51,9 +53,8 @@ impl Domains {
     }
 }
 
-/// Reads a domains file that comes in pieces, cut anywhere. What its records mean and why they are refused is said at
-/// [`read_domains`]. A line that lies within one piece is read where it lies; one that a piece's end cuts is kept until it
-/// is whole.
+/// Reads a domains file that comes in pieces, cut anywhere. [`read_domains`] documents the meaning of its records and their errors. A
+/// line within one piece is read in place; a line that crosses the end of a piece is stored until it is complete.
 #[derive(Drop)]
 pub struct DomainReader {
     alloc: Global,
@@ -74,11 +75,11 @@ impl Model for DomainReader {
 }
 
 impl DomainReader {
-    /// A reader before the first byte.
+    /// Returns a reader before the first byte.
     ///
     /// # Errors
     ///
-    /// `NoMemory` where memory runs out.
+    /// `NoMemory` if memory runs out.
     pub fn make(alloc: Global) -> Result<DomainReader, NoMemory>
         ensures { IfOk result (λ r. domains_fed [] ≡ Ok r) }
     {
@@ -92,8 +93,8 @@ impl DomainReader {
     ///
     /// # Errors
     ///
-    /// `Row` where a record of the lines that are whole by now is refused: the first one, as [`read_domains`] does.
-    /// `NoMemory` where memory runs out. After an error the reader is gone.
+    /// `Row` if a record of the lines complete so far is invalid: the first such record, as in [`read_domains`]. `NoMemory` if memory
+    /// runs out. After an error the reader is gone.
     pub fn feed(self, piece: &[u8]) -> Result<DomainReader, ReadErr>
         ensures { (bytes : List ℕ) → domains_fed bytes ≡ Ok self → Reads (domains_fed (bytes ++ piece.now)) result }
     {
@@ -104,7 +105,7 @@ impl DomainReader {
         })
     }
 
-    /// The domains of the whole file, which ends here. The last line needs no end.
+    /// Returns the domains of the complete file, which ends here. The last line needs no line feed.
     ///
     /// # Errors
     ///
@@ -120,19 +121,24 @@ impl DomainReader {
     }
 }
 
-/// Reads a domains file. Each of its records is `DOMAIN,facility,channel,...`: the station may use these channels, of
-/// which those from 14 up are kept.
+/// Reads a domains file. Each record is `DOMAIN,facility,channel,...`: the station may use these channels. Channels below 14 are dropped.
 ///
-/// A file is cut into lines at the byte 0A. The records of a line are those that the reader of `csv` gives of it by
-/// itself, so a quoted field never goes past its line. Spaces and tabs round a field are dropped, then empty fields at a
-/// record's end; a record with no field left is passed over. A number is one or more ASCII digits, leading zeros
-/// allowed, at most 4,294,967,295.
+/// A file is cut into lines at the byte 0A. The records of a line are those that the reader of `csv` returns for the line by itself, so
+/// a quoted field never extends past its line. Spaces and tabs around a field are dropped, then empty fields at a record's end. A
+/// record with no field left is skipped. A number is one or more ASCII digits, leading zeros allowed, at most 4,294,967,295.
 ///
 /// # Errors
 ///
-/// `Row` at the first record with a fault, with its line's number, counted from 1, and its first fault: fewer than two
-/// fields, another first one, a later field that is no number, a channel outside 2 to 51, a facility that has a record
-/// already, or the 65,537th domain. `NoMemory` where memory runs out.
+/// `Row` at the first invalid record, with its line number, counted from 1, and its first error:
+///
+/// - fewer than two fields;
+/// - a first field other than `DOMAIN`;
+/// - a later field that is no number;
+/// - a channel outside 2 to 51;
+/// - a facility that has a record already;
+/// - the 65,537th domain.
+///
+/// `NoMemory` if memory runs out.
 pub fn read_domains(alloc: Global, bytes: &[u8]) -> Result<Domains, ReadErr>
     ensures { Reads (domains_of bytes.now) result }
 {

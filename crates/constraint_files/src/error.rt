@@ -1,4 +1,4 @@
-//! Why a constraint file is refused.
+//! Why a constraint file is rejected.
 
 ghost use Rattle.std.specs.Prelude.{◌≡◌};
 ghost use Rattle.constraint_files.specs.declared.error.ReadErr.TheVariants.{NoMemory};
@@ -7,13 +7,13 @@ ghost use Rattle.constraint_files.specs.declared.error.RowErr.TheVariants.{NoMem
 use std::alloc::{AllocError, AllocFailed};
 use thiserror::Error;
 
-/// Why a record of a constraint file is refused: the first that holds, in this order.
+/// Why a record of a constraint file is invalid: the first reason that applies, in this order.
 #[derive(Clone, Copy, Debug, PartialEq, Eq, Error)]
 pub enum RowWhy {
-    /// It has fewer than two fields, in a domains file, or fewer than four, in a rows file.
+    /// The record has fewer than two fields, in a domains file, or fewer than four, in a rows file.
     #[error("short row")]
     ShortRow,
-    /// Its first field isn't `DOMAIN`, in a domains file, or none of the five keys, in a rows file.
+    /// The first field isn't `DOMAIN`, in a domains file, or none of the five keys, in a rows file.
     #[error("unknown key")]
     BadKey,
     /// A later field isn't a number.
@@ -22,13 +22,13 @@ pub enum RowWhy {
     /// A channel is outside 2 to 51.
     #[error("channel out of range")]
     ChannelRange,
-    /// The second channel of a row isn't as far from the first as its key says.
+    /// The second channel of a row differs from the first by another offset than the key says.
     #[error("channels do not fit the key")]
     BadOffset,
     /// The facility has a domain row already.
     #[error("second domain row")]
     SecondDomain,
-    /// It is the 65,537th domain row, or its pairs bring those that are kept above 4,000,000.
+    /// The record is the 65,537th domain row, or its pairs bring the kept pairs above 4,000,000.
     #[error("too many")]
     TooMany,
 }
@@ -36,7 +36,7 @@ pub enum RowWhy {
 /// Why a constraint file was not read.
 #[derive(Clone, Copy, Debug, PartialEq, Eq)]
 pub enum ReadErr {
-    /// A record is refused: the first one. It stands in this line, where the first line is 1.
+    /// A record is invalid: the first one, in this line. Lines are counted from 1.
     Row { line: u64, why: RowWhy },
     /// Memory ran out.
     NoMemory,
@@ -50,10 +50,10 @@ impl From<AllocError> for ReadErr {
     }
 }
 
-/// Why a record was not taken.
+/// Why a record was not added.
 #[derive(Clone, Copy, Debug, PartialEq, Eq)]
 pub(crate) enum RowErr {
-    /// It is refused.
+    /// The record is invalid.
     Refused(RowWhy),
     /// Memory ran out.
     NoMemory,

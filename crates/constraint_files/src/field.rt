@@ -14,7 +14,8 @@ use std::alloc::Global;
 /// The greatest number of a field.
 const GREATEST: u64 = 4_294_967_295;
 
-/// The number of a field: one or more ASCII digits, leading zeros allowed, at most 4,294,967,295.
+/// Returns the number of a field: one or more ASCII digits, leading zeros allowed, at most 4,294,967,295. Returns `None` for any
+/// other field.
 pub fn number(field: &[u8]) -> Option<u32>
     ensures { result ≡ number field.now }
 {
@@ -34,14 +35,17 @@ pub fn number(field: &[u8]) -> Option<u32>
     Some(value as u32)
 }
 
-/// The number of a record's field at this place, if it has one there.
+/// Returns the number of a record's field at this place, if the field exists and is a number.
 pub(crate) fn number_at(fields: &CsvRecord, i: usize) -> Option<u32>
     ensures { result ≡ option_and_then number (field_at fields.now i) }
 {
     number(fields.get(i)?)
 }
 
-/// The numbers of a record's fields from this place on.
+/// Returns the numbers of a record's fields from this place on.
+///
+/// # Errors
+/// Fails if some field is no number, or memory runs out.
 pub(crate) fn numbers_from(
     alloc: Global,
     fields: &CsvRecord,
@@ -59,7 +63,7 @@ pub(crate) fn numbers_from(
     Ok(Items::from_vec(list))
 }
 
-/// The number as a channel, if it is one: 2 to 51.
+/// Returns the number as a channel, if it is from 2 to 51.
 pub(crate) fn channel(number: u32) -> Option<u8>
     ensures { result ≡ (if is_channel number then Some number else None) }
 {

@@ -1,10 +1,10 @@
-//! A list that is put in order at once, where a tree would look for the place of each item.
+//! Sorting in one pass over a list, where a tree would search the place of each item.
 
 ghost use Rattle.std.specs.Prelude.{◌≡◌, [], fold};
 ghost use Rattle.std.specs.BTreeSet.{insert_key};
 ghost use Rattle.std.proofs.lemmas.Map.Lookups.{CmpEqualImpliesEq};
 
-/// The items of a list in order, each once: those that a tree has after they are put into it.
+/// Returns the items of a list in order, each once: the items that a tree has after their insertion.
 pub(crate) fn in_order<T: Ord + Drop>(list: Vec<T>) -> Vec<T>
     requires { CmpEqualImpliesEq T.cmp }
     ensures { result.items ≡ fold (insert_key T.cmp) [] list.items }

@@ -1,4 +1,4 @@
-//! From a record of a rows file to the pairs that it tells of.
+//! From a record of a rows file to the pairs that it forbids.
 
 ghost use Rattle.std.specs.Prelude.{◌≡◌};
 ghost use Rattle.constraint_files.specs.Reads.{Takes};
@@ -10,7 +10,7 @@ use crate::record::CsvRecord;
 use pack_defs::items::Items;
 use std::alloc::Global;
 
-/// How far the second channel of a row stands above the first, or below it.
+/// How far the second channel of a row is above the first, or below it.
 #[derive(Clone, Copy)]
 pub struct Offset {
     pub above: u8,
@@ -26,7 +26,7 @@ pub struct Row {
     pub others: Items<u32>,
 }
 
-/// How far the second channel stands from the first, by a row's key.
+/// Returns the offset of the second channel from the first, by a row's key.
 fn offset_of(key: &[u8]) -> Option<Offset>
     ensures { result ≡ offset_of key.now }
 {
@@ -40,7 +40,10 @@ fn offset_of(key: &[u8]) -> Option<Offset>
     }
 }
 
-/// The row of these numbers, if a and b are channels and b is as far from a as the key says.
+/// Returns the row of these numbers.
+///
+/// # Errors
+/// Fails if a or b is no channel, or b is not as far from a as the key says.
 fn row_on(offset: Offset, a: u32, b: u32, station: u32, others: Items<u32>) -> Result<Row, RowWhy>
     ensures { result ≡ row_on offset a b station others }
 {
@@ -60,7 +63,10 @@ fn row_on(offset: Offset, a: u32, b: u32, station: u32, others: Items<u32>) -> R
     })
 }
 
-/// The row that a record gives: `KEY,a,b,s,t,...`.
+/// Returns the row of a record: `KEY,a,b,s,t,...`.
+///
+/// # Errors
+/// Fails with the record's first error, or if memory runs out.
 pub(crate) fn interference_row(alloc: Global, fields: &CsvRecord) -> Result<Row, RowErr>
     ensures { Takes (interference_row fields.now) result }
 {

@@ -1,5 +1,5 @@
-//! The reader of a file that comes in pieces: it cuts the pieces into lines, keeps the line that is begun, counts the
-//! lines, and adds the records of each line to a table. Both constraint files are read by it.
+//! The reader of a file that comes in pieces. It cuts the pieces into lines, stores the unfinished line, counts the lines, and adds the
+//! records of each line to a table. Both constraint files are read with it.
 
 ghost use Rattle.std.specs.Prelude.{◌≡◌, ◌<◌, ◌+◌, ◌∷◌, ◌++◌, [], IfOk, Ok, false, length, true};
 ghost use Rattle.constraint_files.specs.Pieces.{begun_line, fed_if, fed_on, finished, has_end};
@@ -14,7 +14,7 @@ use crate::table::Table;
 use std::alloc::{AllocError as NoMemory, Global};
 use std::marker::Model;
 
-/// A reader of lines: what the records of the whole lines made, the bytes of the line that is begun, and its number.
+/// A reader of lines: the table of the complete lines, the bytes of the unfinished line, and the number of that line.
 #[derive(Drop)]
 pub(crate) struct LineReader<T> {
     table: T,
@@ -33,7 +33,7 @@ impl<T> Model for LineReader<T> {
     ghost invariant = { λ r. has_end r.begun.items ≡ false };
 }
 
-/// Adds the records of one line. After an error the table is lost.
+/// Adds the records of one line. After an error the table is unusable.
 fn add_line<T: Table>(alloc: Global, table: &mut T, line: &[u8]) -> Result<(), RowErr>
     ensures { Changes (after_records T.add table.old (line_records line.now)) table.new result }
 {
@@ -45,7 +45,7 @@ fn add_line<T: Table>(alloc: Global, table: &mut T, line: &[u8]) -> Result<(), R
 }
 
 impl<T: Table + Drop> LineReader<T> {
-    /// A reader before the first line.
+    /// Returns a reader before the first line.
     pub(crate) fn new(alloc: Global, table: T) -> LineReader<T>
         ensures { result ≡ record { made = table; begun = []; line = 1 } }
     {
@@ -56,7 +56,7 @@ impl<T: Table + Drop> LineReader<T> {
         }
     }
 
-    /// Adds the records of these lines, of which the first has the number of the line that is begun.
+    /// Adds the records of these lines. The first line has the number of the unfinished line.
     fn add_lines(self, alloc: Global, bytes: &[u8]) -> Result<LineReader<T>, ReadErr>
         ensures { Reads (fed_if (after_lines T.add self.made self.line (lines_of bytes.now)) self.begun (self.line + length (lines_of bytes.now))) result }
     {
@@ -66,7 +66,7 @@ impl<T: Table + Drop> LineReader<T> {
         self.add_each_line(alloc, bytes)
     }
 
-    /// The same of lines without quotes, at once.
+    /// Adds the records of these lines, which have no quotes, at once.
     fn add_plain_lines(self, alloc: Global, bytes: &[u8]) -> Result<LineReader<T>, ReadErr>
         requires { is_plain bytes.now ≡ true }
         ensures { Reads (fed_if (after_lines T.add self.made self.line (lines_of bytes.now)) self.begun (self.line + length (lines_of bytes.now))) result }
@@ -93,7 +93,7 @@ impl<T: Table + Drop> LineReader<T> {
         }
     }
 
-    /// The same, line by line.
+    /// Adds the records of these lines, line by line.
     fn add_each_line(self, alloc: Global, bytes: &[u8]) -> Result<LineReader<T>, ReadErr>
         ensures { Reads (fed_if (after_lines T.add self.made self.line (lines_of bytes.now)) self.begun (self.line + length (lines_of bytes.now))) result }
     {
@@ -122,7 +122,7 @@ impl<T: Table + Drop> LineReader<T> {
         })
     }
 
-    /// The same reader with these bytes more of the line that is begun.
+    /// Appends these bytes to the unfinished line.
     fn begin(self, bytes: &[u8]) -> Result<LineReader<T>, NoMemory>
         requires { has_end bytes.now ≡ false }
         ensures begun { IfOk result (λ r. r ≡ record { made = self.made; begun = self.begun ++ bytes.now; line = self.line }) }
@@ -133,7 +133,7 @@ impl<T: Table + Drop> LineReader<T> {
         Ok(reader)
     }
 
-    /// Adds the records of the line that is begun, of which these bytes are the rest.
+    /// Completes the unfinished line with these bytes, and adds its records.
     fn end_line(self, alloc: Global, bytes: &[u8]) -> Result<LineReader<T>, ReadErr>
         requires begun { 0 < length self.begun }
         requires one { has_end bytes.now ≡ false }
@@ -152,7 +152,7 @@ impl<T: Table + Drop> LineReader<T> {
         ended.add_lines(alloc, &begun)
     }
 
-    /// Adds the records of these lines, of which the first is the rest of the line that is begun.
+    /// Adds the records of these lines, the first of which completes the unfinished line.
     fn add_whole(self, alloc: Global, bytes: &[u8]) -> Result<LineReader<T>, ReadErr>
         requires some { 0 < length bytes.now }
         requires whole { begun_line bytes.now ≡ [] }
@@ -165,7 +165,7 @@ impl<T: Table + Drop> LineReader<T> {
         self.end_line(alloc, line)?.add_lines(alloc, after)
     }
 
-    /// Reads the next piece of the file: adds the records of the lines that it ends, and keeps the one that it begins.
+    /// Reads the next piece of the file: adds the records of the lines that it completes, and stores the line that it begins.
     pub(crate) fn feed(self, alloc: Global, piece: &[u8]) -> Result<LineReader<T>, ReadErr>
         ensures { Reads (fed_on T.add self piece.now) result }
     {
@@ -176,7 +176,7 @@ impl<T: Table + Drop> LineReader<T> {
         Ok(self.add_whole(alloc, whole)?.begin(rest)?)
     }
 
-    /// What the records made, with those of the line that is begun: the file ends here.
+    /// Returns the table with the records of the unfinished line: the file ends here.
     pub(crate) fn finish(self, alloc: Global) -> Result<T, ReadErr>
         ensures { Reads (finished T.add self) result }
     {

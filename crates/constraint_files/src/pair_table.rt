@@ -21,9 +21,8 @@ use std::collections::BTreeSet;
 use std::marker::Model;
 use std::mem;
 
-/// What the records read so far say. The pairs that were told of last lie as they came, each as often as it came, since a
-/// list of them is soon sorted. They go into the tree only where all that came are so many that their number must be known
-/// after each record.
+/// The pairs and counts of the records read so far. Recent pairs are stored in `last` as they came, duplicates included, since sorting
+/// a list is fast. They go into the tree only when so many came that their exact number must be known after each record.
 #[derive(Drop)]
 pub(crate) struct PairTable {
     tree: BTreeSet<Pair>,
@@ -41,7 +40,7 @@ impl Model for PairTable {
     ghost view = { λ t. record { list = fold with_pair t.tree.keys t.last.items; self_pairs = t.self_pairs; strangers = t.strangers } };
 }
 
-/// The pair of `s` on channel `a` and `t` on channel `b`, with the lesser station first.
+/// Returns the pair of `station` on channel `a` and `other` on channel `b`, with the lesser station first.
 fn pair_of(station: u32, a: u8, other: u32, b: u8) -> Pair
     ensures { result ≡ pair_of station a other b }
 {
@@ -62,7 +61,7 @@ fn pair_of(station: u32, a: u8, other: u32, b: u8) -> Pair
     }
 }
 
-/// Whether a row's channel is in the domain of its station, if that has one.
+/// Checks whether a row's channel is in the domain of its station; `None` if the station has no domain.
 fn own_channel(domains: &Domains, row: &Row) -> Option<bool>
     ensures { result ≡ option_map (λ c. is_in c row.now.channel) (channels_of domains.now row.now.station) }
 {
@@ -72,7 +71,7 @@ fn own_channel(domains: &Domains, row: &Row) -> Option<bool>
     }
 }
 
-/// Puts a pair into a tree, if it isn't there yet.
+/// Inserts a pair into a tree, unless the tree has it.
 fn put_in_tree(tree: &mut BTreeSet<Pair>, pair: Pair) -> Result<(), NoMemory>
     ensures { OnOk result (tree.new.keys ≡ with_pair tree.old.keys pair) }
 {
@@ -80,7 +79,7 @@ fn put_in_tree(tree: &mut BTreeSet<Pair>, pair: Pair) -> Result<(), NoMemory>
     Ok(())
 }
 
-/// Puts these pairs into a tree.
+/// Inserts these pairs into a tree.
 fn put_all(tree: &mut BTreeSet<Pair>, pairs: Vec<Pair>) -> Result<(), NoMemory>
     ensures { OnOk result (tree.new.keys ≡ fold with_pair tree.old.keys pairs.items) }
 {
@@ -90,7 +89,7 @@ fn put_all(tree: &mut BTreeSet<Pair>, pairs: Vec<Pair>) -> Result<(), NoMemory>
     Ok(())
 }
 
-/// The pairs of a tree after these are put into it, ascending.
+/// Inserts these pairs into a tree, and returns the pairs of the tree, ascending.
 fn in_tree(alloc: Global, tree: BTreeSet<Pair>, pairs: Vec<Pair>) -> Result<Vec<Pair>, NoMemory>
     ensures { IfOk result (λ list. list.items ≡ fold with_pair tree.keys pairs.items) }
 {
@@ -103,7 +102,7 @@ fn in_tree(alloc: Global, tree: BTreeSet<Pair>, pairs: Vec<Pair>) -> Result<Vec<
     Ok(list)
 }
 
-/// The same. Pairs that no tree has yet are sorted.
+/// Returns the same as `in_tree`. If the tree is empty, the pairs are sorted.
 fn ascending(alloc: Global, tree: BTreeSet<Pair>, pairs: Vec<Pair>) -> Result<Vec<Pair>, NoMemory>
     ensures { IfOk result (λ list. list.items ≡ fold with_pair tree.keys pairs.items) }
 {
@@ -125,7 +124,7 @@ impl PairTable {
         }
     }
 
-    /// Adds a pair, if it isn't there yet.
+    /// Adds a pair, unless the table has it.
     fn put(&mut self, pair: Pair) -> Result<(), NoMemory>
         ensures { OnOk result (self.new ≡ record { list = with_pair self.old.list pair; self_pairs = self.old.self_pairs; strangers = self.old.strangers }) }
     {
@@ -133,8 +132,8 @@ impl PairTable {
         Ok(())
     }
 
-    /// Adds the pair of a row's station and `other`, if it is kept. `own` says whether the row's channel is in the domain
-    /// of its station, if that has one; `theirs` is the domain of the other.
+    /// Adds the pair of a row's station and `other`, if it is kept. `own` says whether the row's channel is in its station's domain,
+    /// and is `None` without a domain; `theirs` is the domain of the other station.
     fn add_kept(
         &mut self,
         row: &Row,
@@ -155,8 +154,8 @@ impl PairTable {
         Ok(())
     }
 
-    /// Adds what a row says of its station and `other`. `own` says whether the row's channel is in the domain of its
-    /// station, if that has one.
+    /// Adds what a row says about its station and `other`. `own` says whether the row's channel is in its station's domain, and is
+    /// `None` without a domain.
     fn add_other(
         &mut self,
         domains: &Domains,
@@ -174,7 +173,7 @@ impl PairTable {
         self.add_kept(row, own, domains.domain(other), other)
     }
 
-    /// Adds what a row says.
+    /// Adds the pairs and counts of a row.
     fn add_row(&mut self, domains: &Domains, row: &Row) -> Result<(), NoMemory>
         ensures { OnOk result (self.new ≡ fold (with_other domains.now row.now) self.old row.now.others) }
     {
@@ -185,7 +184,7 @@ impl PairTable {
         Ok(())
     }
 
-    /// Adds what a record says. After an error the table is lost.
+    /// Adds the pairs and counts of a record. After an error the table is unusable.
     fn add_record(
         &mut self,
         alloc: Global,
@@ -202,7 +201,7 @@ impl PairTable {
         Ok(())
     }
 
-    /// Puts the last pairs into the tree. Gives how many it has then.
+    /// Moves the recent pairs into the tree, and returns the number of its pairs.
     fn settle(&mut self, alloc: Global) -> Result<usize, NoMemory>
         ensures same { OnOk result (self.new ≡ self.old) }
         ensures count { IfOk result (λ n. n ≡ length self.old.list) }
@@ -212,7 +211,7 @@ impl PairTable {
         Ok(self.tree.len())
     }
 
-    /// Whether the pairs are more than may be.
+    /// Checks whether the pairs exceed the limit.
     fn has_too_many(&mut self, alloc: Global) -> Result<bool, NoMemory>
         ensures same { OnOk result (self.new ≡ self.old) }
         ensures count { IfOk result (λ b. b ≡ nat_lt MOST_PAIRS (length self.old.list)) }
@@ -224,7 +223,7 @@ impl PairTable {
         Ok(self.settle(alloc)? > MOST_PAIRS)
     }
 
-    /// The pairs, ascending, and the counts.
+    /// Returns the pairs, ascending, and the counts.
     pub(crate) fn into_parts(self, alloc: Global) -> Result<(Vec<Pair>, u64, u64), NoMemory>
         ensures { IfOk result (λ p. record { list = p.0.items; self_pairs = p.1; strangers = p.2 } ≡ self) }
     {
@@ -239,7 +238,7 @@ impl PairTable {
     }
 }
 
-/// What the records read so far say, and the domains that they are read over.
+/// The pairs and counts of the records read so far, and the domains over which they are read.
 #[derive(Drop)]
 pub(crate) struct PairsOver<'a> {
     domains: &'a Domains,
@@ -264,7 +263,7 @@ impl<'a> PairsOver<'a> {
         }
     }
 
-    /// The table of the pairs.
+    /// Returns the table of the pairs.
     pub(crate) fn into_table(self) -> PairTable
         ensures { result ≡ self.entry.told }
     {

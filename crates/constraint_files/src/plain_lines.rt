@@ -1,5 +1,5 @@
-//! Lines without quotes: one reader of `csv` reads them at once, since their records are those of each line by itself. So
-//! no reader is made for each line, which takes more time than the line's reading.
+//! Lines without quotes: one reader of `csv` reads them at once, since their records are those of each line by itself. This avoids a
+//! new reader for each line, whose construction takes more time than reading the line.
 
 ghost use Rattle.std.specs.Prelude.{◌≡◌, ◌+◌, IfOk, length};
 ghost use Rattle.csv.specs.Records.{fields_of};
@@ -18,7 +18,7 @@ use std::alloc::{AllocError as NoMemory, Global};
 /// Why records were not added.
 #[derive(Clone, Copy)]
 pub(crate) enum RunErr {
-    /// One is refused, the first, which has so many before it.
+    /// A record is invalid: the first one, which has this many records before it.
     Refused { before: u64, why: RowWhy },
     /// Memory ran out.
     NoMemory,
@@ -32,22 +32,22 @@ impl From<NoMemory> for RunErr {
     }
 }
 
-/// One more of what was counted. No count ever comes so far that this doesn't fit.
+/// Adds one to a counter. No counter ever overflows in practice; an overflow counts as out of memory.
 pub(crate) fn one_more(count: u64) -> Result<u64, NoMemory>
     ensures { IfOk result (λ n. n ≡ count + 1) }
 {
     count.checked_add(1).ok_or(NoMemory)
 }
 
-/// Whether a byte is a quote or the first one of a byte order mark.
+/// Checks whether a byte is a quote or the first byte of a byte order mark.
 fn is_special(byte: u8) -> bool
     ensures { result ≡ is_special byte }
 {
     byte == 34 || byte == 239
 }
 
-/// Whether no byte is a quote or the first one of a byte order mark: these may make a line read otherwise where it stands
-/// behind another.
+/// Checks whether no byte is a quote or the first byte of a byte order mark. With either, a line might be read differently behind
+/// another line.
 pub(crate) fn is_plain(bytes: &[u8]) -> bool
     ensures { result ≡ is_plain bytes.now }
 {
@@ -59,7 +59,7 @@ pub(crate) fn is_plain(bytes: &[u8]) -> bool
     true
 }
 
-/// Adds a record to the table, if a field of it is left. After an error the table is lost.
+/// Adds a record to the table, if the record has a field left. After an error the table is unusable.
 fn add_row<T: Table>(alloc: Global, table: &mut T, row: ByteRecord) -> Result<(), RowErr>
     ensures { Changes (after_raw T.add table.old (fields_of row)) table.new result }
 {
@@ -70,7 +70,8 @@ fn add_row<T: Table>(alloc: Global, table: &mut T, row: ByteRecord) -> Result<()
     table.add_record(alloc, &record)
 }
 
-/// Adds a record that has so many before it, and gives how many come before the next one. After an error the table is lost.
+/// Adds a record that has `before` records before it, and returns the number of records before the next one. After an error the table is
+/// unusable.
 fn add_next<T: Table>(
     alloc: Global,
     table: &mut T,
@@ -86,7 +87,7 @@ fn add_next<T: Table>(
     }
 }
 
-/// Adds the records that the reader of `csv` gives of these bytes, and gives the table back.
+/// Adds the records that the reader of `csv` returns for these bytes, and returns the table.
 pub(crate) fn add_records<T: Table + Drop>(
     alloc: Global,
     table: T,
@@ -109,7 +110,7 @@ pub(crate) fn add_records<T: Table + Drop>(
     Ok(table)
 }
 
-/// The number behind the last of these lines, where the first has this number.
+/// Returns the line number after the last of these lines, the first of which has this number.
 pub(crate) fn number_behind(number: u64, bytes: &[u8]) -> Result<u64, NoMemory>
     ensures { IfOk result (λ n. n ≡ number + length (lines_of bytes.now)) }
 {
@@ -122,7 +123,7 @@ pub(crate) fn number_behind(number: u64, bytes: &[u8]) -> Result<u64, NoMemory>
     Ok(number)
 }
 
-/// The number of the line in which a record stands that has so many before it, where the first line has this number.
+/// Returns the number of the line of a record that has `before` records before it; the first line has this number.
 pub(crate) fn line_at(
     alloc: Global,
     number: u64,

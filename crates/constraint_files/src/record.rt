@@ -9,7 +9,7 @@ ghost use Rattle.constraint_files.specs.Records.{is_blank, kept_fields, trimmed,
 use csv::ByteRecord;
 use std::marker::Model;
 
-/// A record, of which the spaces and tabs round the fields and the empty fields at the end are dropped.
+/// A record without the spaces and tabs around its fields, and without the empty fields at its end.
 #[derive(Drop)]
 pub(crate) struct CsvRecord {
     row: ByteRecord,
@@ -28,14 +28,14 @@ impl Model for CsvRecord {
     ghost invariant = { λ r. (r.kept ≤ length (fields_of r.row)) × (kept_fields (fields_of r.row) ≡ take r.kept (map trimmed (fields_of r.row))) };
 }
 
-/// Whether a byte is a space or a tab.
+/// Checks whether a byte is a space or a tab.
 fn is_blank(byte: u8) -> bool
     ensures { result ≡ is_blank byte }
 {
     byte == b' ' || byte == b'\t'
 }
 
-/// A field without the blanks at its start.
+/// Returns a field without the blanks at its start.
 fn without_leading(field: &[u8]) -> &[u8]
     ensures { result.now ≡ without_leading is_blank field.now }
 {
@@ -47,7 +47,7 @@ fn without_leading(field: &[u8]) -> &[u8]
     &[]
 }
 
-/// A field without the blanks at its end.
+/// Returns a field without the blanks at its end.
 fn without_trailing(field: &[u8]) -> &[u8]
     ensures { result.now ≡ without_trailing is_blank field.now }
 {
@@ -58,21 +58,21 @@ fn without_trailing(field: &[u8]) -> &[u8]
     &field[..end]
 }
 
-/// A field without the blanks round it.
+/// Returns a field without the blanks around it.
 fn trimmed(field: &[u8]) -> &[u8]
     ensures { result.now ≡ trimmed field.now }
 {
     without_trailing(without_leading(field))
 }
 
-/// A row's field at this place without the blanks round it, if it has one there.
+/// Returns a row's field at this place without the blanks around it, if the row has the field.
 fn trimmed_at(row: &ByteRecord, i: usize) -> Option<&[u8]>
     ensures { option_map (λ f. f.now) result ≡ option_map trimmed (field_at (fields_of row.now) i) }
 {
     Some(trimmed(row.get(i)?))
 }
 
-/// Whether a row's field at this place is empty without the blanks round it, or isn't there.
+/// Checks whether a row's field at this place is blank or missing.
 fn is_blank_at(row: &ByteRecord, i: usize) -> bool
     ensures { result ≡ option_map_or is_empty (option_map trimmed (field_at (fields_of row.now) i)) true }
 {
@@ -82,7 +82,7 @@ fn is_blank_at(row: &ByteRecord, i: usize) -> bool
     }
 }
 
-/// How many fields of a row come up to the last one that isn't blank.
+/// Counts the fields of a row up to the last one that isn't blank.
 fn count_kept(row: &ByteRecord) -> usize
     ensures fits { result ≤ length (fields_of row.now) }
     ensures kept { kept_fields (fields_of row.now) ≡ take result (map trimmed (fields_of row.now)) }
@@ -102,14 +102,14 @@ impl CsvRecord {
         CsvRecord { row, kept }
     }
 
-    /// How many fields it has.
+    /// Returns the number of fields.
     pub(crate) fn len(&self) -> usize
         ensures { result ≡ length self.now }
     {
         self.kept
     }
 
-    /// The field at this place, if it has one there.
+    /// Returns the field at this place, if the record has the field.
     pub(crate) fn get(&self, i: usize) -> Option<&[u8]>
         ensures { option_map (λ f. f.now) result ≡ field_at self.now i }
     {

@@ -1,4 +1,4 @@
--- A channel on which no pair of a station has its other entry in the last map makes a fit by itself, and the ways show it.
+-- A channel on which no pair of a station has its other entry in the last map makes a fit by itself, and `ways` finds it.
 use Rattle.std.proofs.Common.{◌≡◌, ◌≢◌, ℕ, zero, suc, ◌+◌, ◌<◌, Bool, true, false, not, ◌&&◌, ◌||◌, ◌==◌, nat_eq, cond, List, [], ◌∷◌, ◌++◌, ◌≤◌, drop, filter, length, get_or, replicate, set, take, Option, Some, None, is_none, ◌⊎◌, inl, inr, arith, refl, sym, ap, ap₂, subst, ◌∙◌, eqb-true, eq-eqb, ne_eqb}
 use Rattle.std.specs.Prelude.{IfSome}
 use Rattle.std.specs.List.{list_any, list_all}
@@ -25,7 +25,7 @@ use Rattle.first_looks.specs.declared.ways.ChannelWay.{ChannelWay}
 use Rattle.first_looks.specs.Free.{AreWays, IsFreeProposal, IsFreeWay, blocks_first, blocks_second, changed, is_free, is_way_open, stood, way_at}
 use Rattle.pack_defs.proofs.Words.{list_any-at}
 
--- ---- how others stand
+-- ---- where the others are
 
 pub stands-moved : (s c : ℕ) (last : List (ℕ × ℕ)) (moved : Option (ℕ × ℕ)) (x : ℕ × ℕ) → IsAscending last → moved ≡ Some x → x.0 ≡ s → nat_eq x.1 c ≡ has_entry (stood last moved) (s, c)
 stands-moved s c last moved x a is e =
@@ -40,12 +40,12 @@ stands-still s c last moved x a is n =
 pub stands-all : (s c : ℕ) (last : List (ℕ × ℕ)) (moved : Option (ℕ × ℕ)) → moved ≡ None → has_entry last (s, c) ≡ has_entry (stood last moved) (s, c)
 stands-all s c last moved is = subst (λ m. has_entry last (s, c) ≡ has_entry (stood last m) (s, c)) (sym is) refl
 
--- what the search is to know at `is_on`
+-- The ruleset for `is_on`.
 pub ruleset moved = (stands-moved, stands-still, stands-all)
 
 -- ---- what a station meets
 
--- one pair more on a channel
+-- One more pair on a channel.
 pub met-at : (ways : List ChannelWay) (k : ℕ) (v d : ChannelWay) (blocks : Bool) (c : ℕ) → k < length ways → is_way_open v ≡ (is_way_open (get_or ways k d) && not blocks) → is_way_open (get_or (set ways k v) c d) ≡ (is_way_open (get_or ways c d) && not ((k == c) && blocks))
 met-at ways k v d blocks c l e =
     (elim (k == c) as (λ b. (k == c) ≡ b → is_way_open (get_or (set ways k v) c d) ≡ (is_way_open (get_or ways c d) && not (b && blocks))) [
@@ -77,7 +77,7 @@ beyond [] (suc c) d l = refl
 beyond (w ∷ ws) zero d l = absurd (omega (arith, l))
 beyond (w ∷ ws) (suc c) d l = beyond ws c d (omega (arith, l))
 
--- at first nobody stands in the way
+-- At first nobody blocks.
 open-all : (way : ChannelWay) (n c : ℕ) → is_way_open way ≡ true → is_way_open (get_or (replicate n way) c way) ≡ true
 open-all way n c open_ =
     elim (cases_lt c n) [
@@ -85,7 +85,7 @@ open-all way n c open_ =
       | inr m ↦ ap is_way_open (beyond (replicate n way) c way (omega (arith, m, length-replicate n way))) ∙ open_
     ]
 
--- what a call has left of a list
+-- What a call has written into a list.
 written : {A : Type 0} (n : ℕ) (new old : List A) → length new ≡ n → take n (new ++ drop (length new) old) ≡ new
 written n new old e =
     ap (λ k. take k (new ++ drop (length new) old)) (sym e) ∙ take-append_seam new (drop (length new) old)
@@ -124,7 +124,7 @@ which-step t cs i d best new l h (inl e) = subst (λ o. IfSome o (λ c. (is_in c
 which-step t cs i d best new l h (inr e) =
     subst (λ o. IfSome o (λ c. (is_in cs c ≡ true) × (t c ≡ true))) (sym e.0) (is_in-at cs i d l, e.1)
 
--- where a channel of the domain is free, one is found
+-- If a channel of the domain is free, one is found.
 pub found-free : (book : BookView) (entries : List (ℕ × ℕ)) (s c : ℕ) (ways : List ChannelWay) (domain : List ℕ) (none : Bool) → AreWays book entries s ways → domain ≡ domain_of book s → none ≡ list_any (λ z. is_way_open (way_at ways z)) domain → is_in (domain_of book s) c ≡ true → is_free book entries s c ≡ true → none ≡ true
 found-free book entries s c ways domain none are is n h f =
     n ∙ list_any-at (λ z. is_way_open (way_at ways z)) domain c (ap (λ (z : List ℕ). is_in z c) is ∙ h) (are.free c ∙ f)
@@ -172,7 +172,7 @@ free-violates book last s c order a =
     neither (list_any (is_violated (overlaid last ((s, c) ∷ []))) (filter (λ p. p.f == s) book.pairs)) (list_any (is_violated (overlaid last ((s, c) ∷ []))) (filter (λ p. p.g == s) book.pairs))
     ∙ ap₂ (λ x y. not x && not y) (first-violated s c last book.pairs a order.of_two) (second-violated s c last book.pairs a order.of_two)
 
--- what a fit of one channel shows
+-- What a fit of one channel proves.
 pub record OneFits (book : BookView) (task : Task) (s c : ℕ) : Type 0 where
   pub of_set : is_in task.set s ≡ true
   pub of_domain : is_in (domain_of book s) c ≡ true
@@ -184,7 +184,7 @@ one-fits book task s c order a e =
     let parts = and_parts (is_in task.set s) (is_in (domain_of book s) c) on.0 in
     record { of_set = parts.0; of_domain = parts.1; free = sym (free-violates book task.last s c order a) ∙ ap not (fit-violates_none book task ((s, c) ∷ []) e) }
 
--- and that a free channel is such a fit
+-- A free channel is a fit of one channel.
 fits-one : (book : BookView) (task : Task) (s c : ℕ) → IsQuery book task → IsInOrder book → IsAscending task.last → task.station ≡ Some s → OneFits book task s c → (is_named task.station ((s, c) ∷ []) && is_none (fit_fault book task ((s, c) ∷ []))) ≡ true
 fits-one book task s c query order a tested one =
     let delta : List (ℕ × ℕ) = (s, c) ∷ [] in
@@ -200,7 +200,7 @@ free-fits book task s proposal delta fits query order a tested there way is e =
     e ∙ ap (λ (z : List (ℕ × ℕ)). is_named task.station z && is_none (fit_fault book task z)) one
     ∙ fits-one book task s c query order a tested (record { of_set = there; of_domain = way.of_domain; free = way.free })
 
--- ---- the looks, where a channel of the tested station makes a fit by itself
+-- ---- the quick fits, if a channel of the tested station makes a fit by itself
 
 same-some : {A : Type 0} (o : Option A) (x y : A) → o ≡ Some x → o ≡ Some y → x ≡ y
 same-some o x y e f = cc
@@ -212,12 +212,12 @@ proposed book task t s c o order a is tested e f =
     let g = subst (λ z. (d : ℕ) → is_in (domain_of book z) d ≡ true → is_free book task.last z d ≡ true → IsFreeProposal book task.last z o) same f in
     (one.of_set, g c one.of_domain one.free)
 
--- something is proposed
+-- Something is proposed.
 pub not-unproposed : (book : BookView) (task : Task) (t s c : ℕ) (o : Option Proposal) → IsInOrder book → IsAscending task.last → task.station ≡ Some t → task.station ≡ Some s → fit_fault book task ((s, c) ∷ []) ≡ None → ((d : ℕ) → is_in (domain_of book t) d ≡ true → is_free book task.last t d ≡ true → IsFreeProposal book task.last t o) → o ≡ None → false ≡ true
 not-unproposed book task t s c o order a is tested e f none =
     absurd (subst (IsFreeProposal book task.last s) none (proposed book task t s c o order a is tested e f).1)
 
--- and what is proposed fits
+-- The proposal fits.
 pub not-refused : {A : Type 0} (book : BookView) (task : Task) (t s c : ℕ) (o : Option Proposal) (p : Proposal) (r : Option A) → IsInOrder book → IsAscending task.last → task.station ≡ Some t → task.station ≡ Some s → fit_fault book task ((s, c) ∷ []) ≡ None → ((d : ℕ) → is_in (domain_of book t) d ≡ true → is_free book task.last t d ≡ true → IsFreeProposal book task.last t o) → o ≡ Some p → ((z : ℕ) → task.station ≡ Some z → is_in task.set z ≡ true → IsFreeWay book task.last z p → is_some r ≡ true) → r ≡ None → false ≡ true
 not-refused book task t s c o p r order a is tested e f some judged none =
     let both = proposed book task t s c o order a is tested e f in
@@ -237,5 +237,5 @@ changed-same own x moved e l = sym (ap (changed own) e ∙ put-here own x [] l)
 pub changed-earlier : (own x : ℕ × ℕ) (moved : Option (ℕ × ℕ)) → moved ≡ Some x → x.0 < own.0 → x ∷ own ∷ [] ≡ changed own moved
 changed-earlier own x moved e l = sym (ap (changed own) e ∙ put-behind own x [] l)
 
--- what the search is to know at `changes`
+-- The ruleset for `changes`.
 pub ruleset changing = (changed-none, changed-later, changed-same, changed-earlier)

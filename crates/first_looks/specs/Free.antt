@@ -1,4 +1,4 @@
--- Which channels are free for a station beside others, and what a look for one finds.
+-- Which channels are free for a station beside others, and what a search for one finds.
 use Rattle.std.specs.Prelude.{ℕ, Bool, true, false, not, ◌≡◌, ◌&&◌, ◌==◌, List, [], ◌∷◌, Option, Some, None, filter, length, slice_index_or}
 use Rattle.std.specs.List.{list_any}
 use Rattle.pack_defs.specs.declared.pair.Pair.{Pair}
@@ -10,55 +10,57 @@ use Rattle.first_looks.specs.declared.ways.Blocker.{Blocker}
 use Rattle.first_looks.specs.declared.ways.Blocker.TheVariants.{No, One, Many}
 use Rattle.first_looks.specs.declared.ways.ChannelWay.{ChannelWay}
 
--- how others stand: as the map says, one of them moved
+-- The map with one of its stations moved, if `Some`.
 abbrev pub stood : List (ℕ × ℕ) → Option (ℕ × ℕ) → List (ℕ × ℕ)
 stood entries None = entries
 stood entries (Some x) = put x entries
 
--- the pair, whose first station (or second) is on the channel, has its other entry in the map
+-- Whether the pair has its first station on the channel, and its other entry in the map.
 abbrev pub blocks_first : List (ℕ × ℕ) → ℕ → Pair → Bool
 blocks_first entries c p = (p.a == c) && has_entry entries (p.g, p.b)
 
+-- Whether the pair has its second station on the channel, and its other entry in the map.
 abbrev pub blocks_second : List (ℕ × ℕ) → ℕ → Pair → Bool
 blocks_second entries c p = (p.b == c) && has_entry entries (p.f, p.a)
 
--- no pair of a station on the channel has its other entry in the map
+-- Whether no pair of the station on the channel has its other entry in the map.
 abbrev pub is_free : BookView → List (ℕ × ℕ) → ℕ → ℕ → Bool
 is_free book entries s c =
     not (list_any (blocks_first entries c) (filter (λ p. p.f == s) book.pairs))
     && not (list_any (blocks_second entries c) (filter (λ p. p.g == s) book.pairs))
 
--- nobody stands in the way
+-- Whether nobody blocks.
 abbrev pub is_no : Blocker → Bool
 is_no No = true
 is_no (One t) = false
 is_no Many = false
 
+-- Whether nobody blocks the channel.
 abbrev pub is_way_open : ChannelWay → Bool
 is_way_open way = is_no way.blocker
 
--- what is met on a channel
+-- What is met on a channel; an open channel past the end of the list.
 abbrev pub way_at : List ChannelWay → ℕ → ChannelWay
 way_at ways c = slice_index_or ways c (record { blocker = No; pairs = 0 })
 
--- what a station meets on each of the 256 channels that a number has
+-- What a station meets on each of the 256 channels that a number can name.
 pub record AreWays (book : BookView) (entries : List (ℕ × ℕ)) (s : ℕ) (ways : List ChannelWay) : Type 0 where
   pub size : length ways ≡ 256
   pub free : (c : ℕ) → is_way_open (way_at ways c) ≡ is_free book entries s c
 
--- the channel moves the station alone, and is a free one of its domain
+-- The proposal moves only the station, to a free channel of its domain.
 pub record IsFreeWay (book : BookView) (entries : List (ℕ × ℕ)) (s : ℕ) (proposal : Proposal) : Type 0 where
   pub own : proposal.own.0 ≡ s
   pub alone : proposal.moved ≡ None
   pub of_domain : is_in (domain_of book s) proposal.own.1 ≡ true
   pub free : is_free book entries s proposal.own.1 ≡ true
 
--- some proposal is such
+-- The proposal exists, and moves only the station, to a free channel of its domain.
 abbrev pub IsFreeProposal : BookView → List (ℕ × ℕ) → ℕ → Option Proposal → Type 0
 IsFreeProposal book entries s None = ⊥
 IsFreeProposal book entries s (Some proposal) = IsFreeWay book entries s proposal
 
--- a channel for one station, and for another one where it is given, ascending by station
+-- The entry of one station, and that of another station if given, ascending by station; `own` replaces an entry of its own station.
 abbrev pub changed : ℕ × ℕ → Option (ℕ × ℕ) → List (ℕ × ℕ)
 changed own None = own ∷ []
 changed own (Some x) = put own (x ∷ [])

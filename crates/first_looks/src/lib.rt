@@ -1,7 +1,10 @@
-//! First looks at a query: answers that need no search.
+//! Quick fits: fits of a query that need no search.
 //!
-//! It may call `assign_check` and `cert_types`. `cdcl_prove` and `race_wave` call it, and no check does. Read `looks` first,
-//! then `mend`, then `ways`.
+//! The crate may call `assign_check` and `cert_types`. `cdcl_prove` and `race_wave` call it, and no check does. In reading order:
+//!
+//! - `looks`: the quick fits of a query, in order, each checked before it is returned.
+//! - the module of repairs: a free channel for the tested station, or one that another station can leave.
+//! - `ways`: what blocks a station on each channel.
 #![tactic(auto)]
 
 pub mod looks;

@@ -1,4 +1,6 @@
-//! The first looks at a query, in order: the station's last fit, a free channel, one repair.
+//! The quick fits of a query, in order: the station's last fit, a free channel, one repair.
+//!
+//! A query session asks here before it starts a solver.
 
 ghost use Rattle.std.specs.Prelude.{ℕ, ◌≡◌, ◌∷◌, [], IfOk, IfSome, None, Some, true};
 ghost use Rattle.std.specs.Option.{is_some};
@@ -17,19 +19,19 @@ use pack_defs::channel_map::ChannelMap;
 use std::alloc::{AllocError as NoMemory, Global};
 use std::collections::BTreeMap;
 
-/// How many queries each look answered. A count that is full stays.
+/// How many queries each kind of quick fit answered. The counters saturate.
 #[derive(Clone, Copy, Debug, PartialEq, Eq)]
 pub struct Looked {
-    /// What the station's last fit changed, which still fitted.
+    /// By the changes of the station's last fit, which still fitted.
     pub last: u64,
-    /// A free channel.
+    /// By a free channel.
     pub free: u64,
-    /// A channel from which one station made way.
+    /// By a repair: a channel that one station could leave.
     pub repaired: u64,
 }
 
-/// First looks at the queries of an auction. It keeps of each station what its last fit changed, and counts what it answered.
-/// Contracts see nothing of it: what it proposes is policy, and what it answers was checked.
+/// Quick fits for the queries of an auction. It stores for each station the changes of its last fit, and counts its answers. Contracts
+/// see none of this state: the proposals are policy, and each answer was checked.
 #[derive(Debug, Drop)]
 pub struct FirstLooks {
     fits: BTreeMap<u32, ChannelMap>,
@@ -37,7 +39,7 @@ pub struct FirstLooks {
 }
 
 impl FirstLooks {
-    /// No fit is kept of any station, and no query was answered.
+    /// Returns the state without a stored fit and without an answer.
     pub fn new(alloc: Global) -> FirstLooks {
         FirstLooks {
             fits: BTreeMap::new(alloc),
@@ -49,18 +51,27 @@ impl FirstLooks {
         }
     }
 
-    /// How many queries each look answered so far.
+    /// Returns how many queries each kind answered so far.
     pub fn looked(&self) -> Looked {
         self.looked
     }
 
-    /// A fit of the query, where a look finds one: what the tested station's last fit changed, if it still fits; else a free
-    /// channel of the station, the one that its neighbours want least; else a channel on which one station alone stands in the
-    /// way, which can itself go elsewhere. A fit by the last two looks is kept. Of a query that tests no station there is no
-    /// look. Where a channel of the tested station makes a fit while the others stay, some look finds one. No clause is made:
-    /// the looks cost a list of all channels and a pass over its pairs, with a search by halves for each, of the tested
-    /// station, and of the one that alone stands in the way on each channel until one can make way. The only error is want of
-    /// memory.
+    /// Returns a fit of the query, if a quick fit exists; none for a query that tests no station.
+    ///
+    /// The candidates are, in order:
+    ///
+    /// - the changes of the tested station's last fit;
+    /// - a free channel of the station, the one that its neighbours want least;
+    /// - a channel that only one station blocks, if that station can move.
+    ///
+    /// A fit by a free channel or a repair is stored. If some channel of the tested station makes a fit while the others stay, a fit is
+    /// returned.
+    ///
+    /// No clause is built. The cost is a pass over the pairs of the tested station, with a binary search for each, and one for each
+    /// single blocker until one can move.
+    ///
+    /// # Errors
+    /// Fails only if memory runs out.
     pub fn look(
         &mut self,
         alloc: Global,
@@ -91,8 +102,8 @@ impl FirstLooks {
         Ok(Some(fit))
     }
 
-    /// Keeps of the tested station what a fit changed, if an attempt at its query says one, in the place of what was kept of it: the
-    /// first look at its next test. Where memory runs out, what was kept of it may stay, or nothing.
+    /// Stores the changes of a fit for the tested station, if an attempt at its query returned a fit, in place of the stored ones. They
+    /// are the first candidate at the station's next test. If memory runs out, the stored changes may stay or be lost.
     pub fn keep_said(&mut self, alloc: Global, task: &Task, attempt: &Attempt) {
         let Some(s) = task.station else {
             return;
@@ -102,19 +113,19 @@ impl FirstLooks {
         }
     }
 
-    // Keeps a copy of what a fit of a station changed, in the place of what was kept of it.
+    // Stores a copy of the changes of a station's fit, in place of the stored ones.
     fn keep(&mut self, alloc: Global, station: u32, fit: &ChannelMap) {
         if let Ok(copy) = ChannelMap::of(alloc, fit.entries()) {
             let _kept = self.fits.insert(station, copy).is_ok();
         }
     }
 
-    /// What the last fit of a station changed, if one is kept. It may no longer fit.
+    /// Returns the changes of a station's last fit, if any are stored. They may no longer fit.
     pub fn kept(&self, station: u32) -> Option<&ChannelMap> {
         self.fits.get(&station)
     }
 
-    // What the station's last fit changed, if that still fits.
+    // Returns the changes of the station's last fit, if they still fit.
     fn last_fit(
         &self,
         alloc: Global,
@@ -144,7 +155,7 @@ impl FirstLooks {
     }
 }
 
-// The fit that a proposal is, where it is one.
+// Returns the fit of a proposal, if the proposal is one.
 fn judged(
     alloc: Global,
     book: &Book,

@@ -1,4 +1,4 @@
-//! A channel for the tested station beside the others as they stand, or with one of them moved out of its way.
+//! A channel for the tested station while the others stay, or with one of them repaired, that is, moved to another channel.
 
 ghost use Rattle.std.specs.Prelude.{ℕ, ◌≡◌, IfOk, true};
 ghost use Rattle.pack_defs.specs.Book.{domain_of};
@@ -10,7 +10,7 @@ use pack_defs::book::Book;
 use pack_defs::channel_map::ChannelMap;
 use std::alloc::{AllocError as NoMemory, Global};
 
-/// A proposal: a channel for the tested station, and a channel for one station that stands in its way there.
+/// A proposal: a channel for the tested station, and optionally a channel for one station that blocks it there.
 #[derive(Clone, Copy, Debug, PartialEq, Eq)]
 pub(crate) struct Proposal {
     pub(crate) own: (u32, u8),
@@ -18,7 +18,10 @@ pub(crate) struct Proposal {
 }
 
 impl Proposal {
-    /// The channels that it changes, ascending by station. The only error is want of memory.
+    /// Returns the channels that the proposal changes, ascending by station.
+    ///
+    /// # Errors
+    /// Fails only if memory runs out.
     #[tactic(auto, using(crate::proofs::FreeLemmas::changing))]
     pub(crate) fn changes(self, alloc: Global) -> Result<ChannelMap, NoMemory>
         ensures { IfOk result (λ map. map ≡ changed self.own self.moved) }
@@ -37,9 +40,11 @@ impl Proposal {
     }
 }
 
-/// The first proposal that these looks find for a station beside a map: a free channel, the one that its neighbours want
-/// least; else a channel on which one station alone stands in the way, which has a free channel itself once the tested station
-/// stands there. The only error is want of memory.
+/// Returns the first proposal for a station beside a map. The first choice is the free channel that its neighbours want least. The
+/// second is a channel that only one station blocks, if that station then has a free channel.
+///
+/// # Errors
+/// Fails only if memory runs out.
 pub(crate) fn propose(
     alloc: Global,
     book: &Book,
@@ -58,7 +63,7 @@ pub(crate) fn propose(
     repair(alloc, book, map, station, &ways)
 }
 
-// The first channel of a station on which one other alone stands in the way and can go elsewhere.
+// Returns the first channel of a station that only one other station blocks, if that station can move.
 fn repair(
     alloc: Global,
     book: &Book,
@@ -80,7 +85,7 @@ fn repair(
     Ok(None)
 }
 
-// The station that alone stands in the way on a channel.
+// Returns the station that alone blocks a channel.
 fn alone_in_the_way(ways: &[ChannelWay], c: u8) -> Option<u32> {
     match ways.get(c as usize)?.blocker {
         Blocker::One(t) => Some(t),
@@ -88,7 +93,7 @@ fn alone_in_the_way(ways: &[ChannelWay], c: u8) -> Option<u32> {
     }
 }
 
-// A channel that is free for station `t` once another one stands so.
+// Returns a channel that is free for station `t` once another station has moved.
 fn way_out(
     alloc: Global,
     book: &Book,

@@ -1,4 +1,4 @@
-//! What a station meets on each channel: who stands in its way there, and how much its neighbours want it.
+//! For each channel of a station, who blocks the station there, and how much its neighbours want the channel.
 
 ghost use Rattle.std.specs.Prelude.{ℕ, ◌≡◌, ◌==◌, ◌&&◌, ◌||◌, ◌⊎◌, IfOk, IfSome, Some, false, filter, length, not, true};
 ghost use Rattle.std.specs.List.{list_any};
@@ -10,7 +10,7 @@ use pack_defs::book::Book;
 use pack_defs::channel_map::ChannelMap;
 use std::alloc::{AllocError as NoMemory, Global};
 
-/// Who stands in a station's way on a channel.
+/// Who blocks a station on a channel.
 #[derive(Clone, Copy, Debug, PartialEq, Eq)]
 pub(crate) enum Blocker {
     No,
@@ -18,15 +18,15 @@ pub(crate) enum Blocker {
     Many,
 }
 
-/// What a station meets on a channel.
+/// A channel as a station meets it.
 #[derive(Clone, Copy, Debug)]
 pub(crate) struct ChannelWay {
     pub(crate) blocker: Blocker,
-    // So many pairs of the station are on the channel: the more, the more its neighbours want it.
+    // The number of the station's pairs on the channel. More pairs mean that its neighbours want the channel more.
     pub(crate) pairs: u32,
 }
 
-/// A channel map in which one station is on another channel than it says.
+/// A channel map in which one station is on another channel than the map says.
 #[derive(Clone, Copy)]
 pub(crate) struct Stands<'a> {
     pub(crate) map: &'a ChannelMap,
@@ -34,7 +34,7 @@ pub(crate) struct Stands<'a> {
 }
 
 impl<'a> Stands<'a> {
-    // Whether the station is on this channel.
+    // Checks whether the station is on this channel.
     #[tactic(auto, using(crate::proofs::FreeLemmas::moved))]
     fn is_on(&self, station: u32, c: u8) -> bool
         ensures { result ≡ has_entry (stood self.now.map.now self.now.moved) (station, c) }
@@ -50,11 +50,14 @@ impl<'a> Stands<'a> {
     }
 }
 
-// So many channels have a number.
+// The number of channels that a `u8` can name.
 const CHANNELS: usize = 256;
 
-/// What a station meets on each channel, from channel 0 on, where others stand so. It costs a pass over the station's pairs,
-/// and a search by halves for each. The only error is want of memory.
+/// Returns what a station meets on each channel, from channel 0 on, with the other stations as in `stands`. Costs a pass over the
+/// station's pairs, with a binary search for each.
+///
+/// # Errors
+/// Fails only if memory runs out.
 pub(crate) fn ways_of(
     alloc: Global,
     book: &Book,
@@ -73,7 +76,7 @@ pub(crate) fn ways_of(
     Ok(ways)
 }
 
-// Notes the pairs whose first station this is.
+// Records the pairs whose first station this is.
 fn meet_first(ways: &mut [ChannelWay], book: &Book, stands: Stands, station: u32)
     requires { length ways.old ≡ 256 }
     ensures size { length ways.new ≡ 256 }
@@ -84,7 +87,7 @@ fn meet_first(ways: &mut [ChannelWay], book: &Book, stands: Stands, station: u32
     }
 }
 
-// Notes the pairs whose second station this is.
+// Records the pairs whose second station this is.
 fn meet_second(ways: &mut [ChannelWay], book: &Book, stands: Stands, station: u32)
     requires { length ways.old ≡ 256 }
     ensures size { length ways.new ≡ 256 }
@@ -95,7 +98,7 @@ fn meet_second(ways: &mut [ChannelWay], book: &Book, stands: Stands, station: u3
     }
 }
 
-// Notes a pair on a channel, whose other station stands in the way or not.
+// Records a pair on a channel, whose other station blocks or not.
 fn meet(ways: &mut [ChannelWay], channel: u8, other: u32, blocks: bool)
     requires { length ways.old ≡ 256 }
     ensures size { length ways.new ≡ 256 }
@@ -105,7 +108,7 @@ fn meet(ways: &mut [ChannelWay], channel: u8, other: u32, blocks: bool)
     ways[at] = met(ways[at], other, blocks);
 }
 
-// What a station meets with one pair more, whose other station stands in the way or not.
+// Returns the channel with one more pair, whose other station blocks or not.
 fn met(way: ChannelWay, other: u32, blocks: bool) -> ChannelWay
     ensures { is_way_open result ≡ (is_way_open way && not blocks) }
 {
@@ -122,7 +125,7 @@ fn met(way: ChannelWay, other: u32, blocks: bool) -> ChannelWay
     }
 }
 
-// Who stands in the way where this station does, too.
+// Returns who blocks once this station blocks too.
 fn joined(blocker: Blocker, other: u32) -> Blocker
     ensures { is_no result ≡ false }
 {
@@ -133,8 +136,7 @@ fn joined(blocker: Blocker, other: u32) -> Blocker
     }
 }
 
-/// The channel of a domain on which nobody stands in the way, and of these the one that the fewest pairs are on, the lowest
-/// where several are.
+/// Returns the channel of a domain that nobody blocks and that has the fewest pairs, the lowest if several have.
 pub(crate) fn free_channel(domain: &[u8], ways: &[ChannelWay]) -> Option<u8>
     requires { length ways.now ≡ 256 }
     ensures some { is_some result ≡ list_any (λ c. is_way_open (way_at ways.now c)) domain.now }
@@ -147,7 +149,7 @@ pub(crate) fn free_channel(domain: &[u8], ways: &[ChannelWay]) -> Option<u8>
     best
 }
 
-// The channel that is wanted less: the best one so far or the next one, if nobody stands in the way there.
+// Returns the better of the best channel so far and the next one, which counts only if nobody blocks it.
 fn better(ways: &[ChannelWay], best: Option<u8>, next: u8) -> Option<u8>
     requires { length ways.now ≡ 256 }
     ensures some { is_some result ≡ (is_some best || is_way_open (way_at ways.now next)) }
@@ -166,7 +168,7 @@ fn better(ways: &[ChannelWay], best: Option<u8>, next: u8) -> Option<u8>
     Some(next)
 }
 
-// Whether nobody stands in the way.
+// Checks whether nobody blocks.
 fn is_no(blocker: Blocker) -> bool
     ensures { result ≡ is_no blocker }
 {

@@ -1,4 +1,4 @@
--- What one entry more makes of a ledger's list.
+-- What one more entry does to a ledger's list. For `ledger`.
 use Rattle.std.proofs.Common.{◌≡◌, ℕ, zero, suc, ◌+◌, ◌<◌, ◌≤◌, true, false, cond, eqb, nat_lt, List, [], ◌∷◌, map, length, get_or, Some, None, refl, sym, ap, ◌∙◌, arith}
 use Rattle.std.specs.List.{insert}
 use Rattle.std.specs.List.Sorted.{IsNonDecreasingBy, IsPartitionPoint}
@@ -11,15 +11,15 @@ use Rattle.pack_defs.specs.Lists.{is_ascending}
 use Rattle.pack_defs.proofs.Searches.{sorted-keys, rises-step}
 use Rattle.freeze_ledger.specs.Ledger.{price_of, sum_paid, with_price}
 
--- ---- a search by halves
+-- ---- a binary search
 
--- the stations of a list that ascends do not fall
+-- the stations of an ascending list do not fall
 pub rising : (xs : List (ℕ × ℕ)) → IsAscending xs → IsNonDecreasingBy (λ x. x.0) xs
 rising xs a =
     let sorted = sorted-keys (λ (x : ℕ × ℕ). x.0) xs a in
     IsNonDecreasingBy-from_all_adjacent (λ x. x.0) xs (λ k d l. rises-step (get_or xs k d).0 (get_or xs (k + 1) d).0 (sorted k d (omega arith) l))
 
--- the entry goes where the lower stations end
+-- the entry goes after the lower stations
 pub insert-place : (s price : ℕ) (xs : List (ℕ × ℕ)) (n : ℕ) → n ≤ length xs → IsPartitionPoint (λ y. nat_lt y.0 s ≡ true) (λ y. nat_lt y.0 s ≡ false) xs n → insert xs n (s, price) ≡ with_price s price xs
 insert-place s price [] zero l h = refl
 insert-place s price [] (suc n) l h = absurd (omega arith)
@@ -28,12 +28,12 @@ insert-place s price (x ∷ xs) (suc n) l h =
     ap (λ ys. x ∷ ys) (insert-place s price xs n (omega arith) (λ i d l u. h.0 (suc i) d (omega arith) (omega arith), λ i d l u. h.1 (suc i) d (omega arith) (omega arith)))
     ∙ sym (cond-true (nat_lt x.0 s) (x ∷ with_price s price xs) ((s, price) ∷ x ∷ xs) (h.0 0 x (omega arith) (omega arith)))
 
--- a look-up among entries is that of a map
+-- the price of a station is looked up like a channel in a channel map
 pub price-entry : (s : ℕ) (xs : List (ℕ × ℕ)) → channel_of s xs ≡ price_of s xs
 price-entry s [] = refl
 price-entry s (x ∷ xs) = ap (λ o. cond (eqb x.0 s) (Some x.1) o) (price-entry s xs)
 
--- ---- one entry more
+-- ---- one more entry
 
 pub sum-with : (s price : ℕ) (xs : List (ℕ × ℕ)) → sum_paid (with_price s price xs) ≡ sum_paid xs + price
 sum-with s price [] = omega arith
@@ -64,7 +64,7 @@ price-own s price (x ∷ xs) =
       | false ↦ λ _. cond-true (eqb s s) (Some price) (price_of s (x ∷ xs)) (eq-eqb s s refl)
     ]) refl
 
--- and every other one what it had
+-- every other station keeps its price
 pub price-other : (s price t : ℕ) (xs : List (ℕ × ℕ)) → eqb s t ≡ false → price_of t (with_price s price xs) ≡ price_of t xs
 price-other s price t [] other = cond-false (eqb s t) (Some price) None other
 price-other s price t (x ∷ xs) other =
@@ -73,9 +73,9 @@ price-other s price t (x ∷ xs) other =
       | false ↦ cond-false (eqb s t) (Some price) (price_of t (x ∷ xs)) other
     ]
 
--- ---- the list ascends still
+-- ---- the list still ascends
 
--- an absent station is not the first, and not behind it
+-- an absent station is neither the first nor among the others
 not-here : (s : ℕ) (x : ℕ × ℕ) (xs : List (ℕ × ℕ)) → price_of s (x ∷ xs) ≡ None → (eqb x.0 s ≡ false) × (price_of s xs ≡ None)
 not-here s x xs none =
     (elim (eqb x.0 s) as (λ b. eqb x.0 s ≡ b → cond b (Some x.1) (price_of s xs) ≡ None → (eqb x.0 s ≡ false) × (price_of s xs ≡ None)) [
@@ -86,7 +86,7 @@ not-here s x xs none =
 above : (x s : ℕ) → nat_lt x s ≡ false → eqb x s ≡ false → s < x
 above x s h g = grind (arith, nat_tests)
 
--- the entry put among those above b leaves them above b
+-- an entry above b inserted among entries above b leaves them all above b
 with-above : (b s price : ℕ) (xs : List (ℕ × ℕ)) → price_of s xs ≡ None → is_ascending (b ∷ map (λ x. x.0) xs) ≡ true → b < s → is_ascending (b ∷ map (λ x. x.0) (with_price s price xs)) ≡ true
 with-above b s price [] none a l = and_from (nat_lt b s) true (lt-ltb b s l) refl
 with-above b s price (x ∷ xs) none a l =

@@ -1,5 +1,5 @@
-//! The ledger of an auction: each frozen station beside its price, and the sum of the prices. It is the one place where
-//! amounts are kept. Room is made before a station is frozen, so that the freezing itself takes no memory.
+//! The ledger of an auction: each frozen station with its price, and the sum of the prices. Amounts are kept nowhere else.
+//! `auction_core::clock` reserves room before a station is frozen, so that `freeze` allocates nothing.
 
 ghost use Rattle.std.specs.Prelude.{◌≡◌, ◌<◌, ◌≤◌, ◌+◌, ◌^◌, ℕ, None, OnOk, [], length};
 ghost use Rattle.std.specs.List.{insert};
@@ -33,7 +33,7 @@ impl Model for Ledger {
 }
 
 impl Ledger {
-    /// No station is frozen. It takes no memory, and keeps the allocator for later.
+    /// Returns a ledger with no frozen station. Allocates nothing; keeps the allocator for later.
     pub fn new(alloc: Global) -> Ledger
         ensures { result.paid ≡ [] }
     {
@@ -43,8 +43,11 @@ impl Ledger {
         }
     }
 
-    /// Makes room for so many stations more than are frozen. The only error is want of memory. Whatever it answers, no price
-    /// is changed, and there is no less room than before.
+    /// Reserves room for `more` further stations. Success or failure, no price changes and no room is lost.
+    ///
+    /// # Errors
+    ///
+    /// Fails only if memory runs out.
     pub fn reserve(&mut self, more: u32) -> Result<(), NoMemory>
         ensures room { OnOk result (more ≤ self.new.spare) }
         ensures spare { self.old.spare ≤ self.new.spare }
@@ -53,8 +56,10 @@ impl Ledger {
         self.entries.reserve(more as usize)
     }
 
-    /// A station, by its facility number, is frozen at this price, in cents. It was not frozen before, there is room for it,
-    /// and what is paid in all stays below 2^64. It takes no memory.
+    /// Freezes a station, by its facility number, at this price, in cents. Allocates nothing.
+    ///
+    /// The station must not be frozen yet, there must be room for it, and the total must stay below 2^64. Cost: a binary search,
+    /// and moving the entries behind the new one.
     pub fn freeze(&mut self, station: u32, price: u64)
         requires room { 1 ≤ self.old.spare }
         requires absent { price_of station self.old.paid ≡ None }
@@ -69,7 +74,7 @@ impl Ledger {
         self.total += price;
     }
 
-    /// What a station, by its facility number, is paid, in cents; none where it is not frozen. It searches by halves.
+    /// Returns what a station, by its facility number, is paid, in cents; `None` if it is not frozen. Binary search.
     pub fn paid(&self, station: u32) -> Option<u64>
         ensures { result ≡ price_of station self.now.paid }
     {
@@ -79,7 +84,7 @@ impl Ledger {
         }
     }
 
-    /// What the frozen stations are paid together, in cents. It takes constant time.
+    /// Returns what the frozen stations are paid together, in cents. Constant time.
     pub fn total(&self) -> u64
         ensures { result ≡ sum_paid self.now.paid }
     {
@@ -87,7 +92,7 @@ impl Ledger {
     }
 }
 
-// How many of these stations, which ascend, are below this one.
+// Returns how many of these entries, which ascend by station, are below this station.
 fn place_of(entries: &[(u32, u64)], station: u32) -> usize
     requires { IsAscending entries.now }
     ensures within { result ≤ length entries.now }

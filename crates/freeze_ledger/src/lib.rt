@@ -1,6 +1,6 @@
-//! What the frozen stations of a clock are paid.
+//! What the frozen stations of a clock auction are paid. The crate calls `pack_defs` only, and knows nothing of queries.
 //!
-//! It may call `pack_defs` alone, and knows of no query. `ledger` is all of it.
+//! - `ledger`: the only module.
 #![tactic(auto)]
 
 pub mod ledger;

@@ -1,9 +1,9 @@
-//! What is learnt from a conflict: a line that says that some literals are not all false, by the first unique implication
-//! point, with the hints by which it follows.
+//! Conflict analysis: the line that a conflict teaches, by the first unique implication point (MiniSat, Eén and Sörensson 2003), with the
+//! hints by which the line follows.
 //!
-//! From the false clause on, each literal of the last level is replaced by those that made it false, the latest first, until
-//! one of that level is left. A literal that follows from others of the line is left out. The hints are the reasons of all that
-//! the false clause needs where the line's literals are false, in the order of the trail, and the clause itself.
+//! Beginning with the false clause, each literal of the last level is replaced by the literals that made it false, the latest first.
+//! This ends when one literal of that level is left. A literal that follows from others of the line is left out. The hints are the
+//! reasons that the false clause needs if the line's literals are false, in trail order, and then the clause itself.
 
 use crate::cells::{read, short, write};
 use crate::engine::Engine;
@@ -13,12 +13,12 @@ use crate::marks::Mark;
 use crate::policy::STEPS_OF_CONFLICT;
 use std::alloc::AllocError as NoMemory;
 
-// Facts come before this rank, by their lines, and behind it the literals as they came to the trail.
+// Facts have ranks below this one, by their lines; the literals of the trail have ranks from this one on.
 const LITERALS: u64 = 1 << 32;
 
 impl Engine {
-    /// Makes the line and the hints of a conflict above level 0. The line's first literal is the one to become true, and its
-    /// second one of the highest level among the others, which is the level to go back to.
+    /// Derives the line and the hints of a conflict above level 0, and returns the level to go back to. The line's first literal is the
+    /// one to become true; the second has the highest level among the others, which is the returned level.
     pub(crate) fn analyse(&mut self, conflict: Reason) -> Result<u32, NoMemory> {
         self.resolve(conflict)?;
         self.minimise();
@@ -30,7 +30,7 @@ impl Engine {
         Ok(self.second_level())
     }
 
-    /// Of how many levels the line's literals are.
+    /// Returns the number of levels of the line's literals.
     pub(crate) fn glue(&mut self) -> u32 {
         self.marks.begin_count();
         let mut glue: u32 = 0;
@@ -42,7 +42,7 @@ impl Engine {
         glue
     }
 
-    // The line as the conflict says it.
+    // Resolves the conflict into the line, before literals are left out.
     fn resolve(&mut self, conflict: Reason) -> Result<(), NoMemory> {
         self.line.clear();
         self.line.push(Literal::of(0))?;
@@ -66,7 +66,7 @@ impl Engine {
         Ok(())
     }
 
-    // Meets each variable of a reason that is unmet and no fact. How many of them are of the last level.
+    // Meets each unmet variable of a reason that is no fact, and returns how many of these are of the last level.
     fn meet_all(&mut self, reason: Reason) -> Result<u32, NoMemory> {
         if let Reason::Clause { at } = reason {
             if let Hint::Line(_) = self.clauses.name(at) {
@@ -93,7 +93,7 @@ impl Engine {
         Ok(open)
     }
 
-    // Leaves out each literal but the first whose reason is made of others of the line and of facts.
+    // Leaves out each literal except the first whose reason consists of other literals of the line and facts.
     fn minimise(&mut self) {
         let mut kept: u32 = 1;
         for place in 1..short(self.line.len()) {
@@ -106,7 +106,7 @@ impl Engine {
         self.line.truncate(kept as usize);
     }
 
-    // Whether the reason of a variable has a literal that neither the line nor a fact makes false.
+    // Checks whether the reason of a variable has a literal that is neither in the line nor a fact.
     fn is_needed(&self, var: u32) -> bool {
         let reason = self.trail.reason_of(var);
         if reason == Reason::Chosen {
@@ -124,7 +124,7 @@ impl Engine {
         false
     }
 
-    // The hints, once the line stands.
+    // Gathers the hints of the finished line.
     fn gather_hints(&mut self, conflict: Reason) -> Result<(), NoMemory> {
         for place in 0..short(self.line.len()) {
             let var = read(&self.line, place, Literal::of(0)).var();
@@ -145,7 +145,7 @@ impl Engine {
         Ok(())
     }
 
-    // Each variable of a reason that is neither in the line nor needed yet is needed.
+    // Adds the hints of each variable of a reason that is neither in the line nor added yet.
     fn need_all(&mut self, reason: Reason) -> Result<(), NoMemory> {
         for place in 0..self.size(reason) {
             let var = self.literal(reason, place).var();
@@ -170,7 +170,7 @@ impl Engine {
         self.marks.wait(var)
     }
 
-    // Brings a literal of the highest level but the first's to the second place. That level, or 0 where there is none.
+    // Swaps a literal of the highest level, except the first, into the second place. Returns that level, or 0 if the line has one literal.
     fn second_level(&mut self) -> u32 {
         let mut highest: u32 = 0;
         for place in 1..short(self.line.len()) {

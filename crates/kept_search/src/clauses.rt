@@ -1,4 +1,4 @@
-//! The stored clauses, which are those of the stations and the lines that were learnt, and the two literals that each watches.
+//! The stored clauses, which are the stations' own clauses and the learnt lines, and the two literals that each clause watches.
 
 use crate::cells::{read, short};
 use crate::hint::Hint;
@@ -8,54 +8,54 @@ use crate::trail::{KeptTrail, Value};
 use std::alloc::{AllocError as NoMemory, Global};
 use std::mem::replace;
 
-// Before the literals of a clause stand how many there are, and the place of what is known of it.
+// A clause begins with its number of literals and the place of its head.
 const WORDS_BEFORE_LITERALS: u32 = 2;
 
-/// A clause that watches a literal, and another literal of it: where that is true, the clause needs no look.
+/// A clause that watches a literal, and another literal of the clause, the blocker. If the blocker is true, the clause needs no visit.
 #[derive(Clone, Copy)]
 pub(crate) struct KeptWatch {
     pub(crate) at: u32,
     pub(crate) blocker: Literal,
 }
 
-/// What is known of a clause.
+/// The statistics of a clause.
 #[derive(Clone, Copy)]
 pub(crate) struct ClauseHead {
     pub(crate) at: u32,
     pub(crate) name: Hint,
-    /// Of how many levels its literals were.
+    /// The number of levels of its literals when it was learnt.
     pub(crate) glue: u32,
-    /// How much conflicts met it of late.
+    /// How much recent conflicts met the clause.
     pub(crate) used: f64,
 }
 
-/// What a look at a watching clause came to.
+/// The result of a visit to a watching clause.
 #[derive(Clone, Copy)]
 pub(crate) enum KeptLook {
-    /// It watches another literal now.
+    /// The clause watches another literal now.
     Moved,
-    /// It is true.
+    /// The clause is true, by this literal.
     Holds(Literal),
-    /// All of its literals but this one are false.
+    /// All literals of the clause except this one are false.
     Forces(Literal),
-    /// All of its literals are false, this one too.
+    /// All literals of the clause, including this one, are false.
     False(Literal),
 }
 
-/// Clauses, one behind the other in one list.
+/// Clauses, stored one after the other in one list.
 #[derive(Drop)]
 pub(crate) struct KeptClauses {
     words: Vec<u32>,
     heads: Vec<ClauseHead>,
-    // So many of them are lines, the others those of stations.
+    // The number of clauses that are lines; the others are the stations' own.
     lines: usize,
-    // Of each literal the clauses that watch it.
+    // For each literal the clauses that watch it.
     watches: Vec<Vec<KeptWatch>>,
     step: f64,
 }
 
 impl KeptClauses {
-    /// No clause over so many variables.
+    /// Returns the empty list of clauses over this many variables.
     pub(crate) fn new(alloc: Global, vars: u32) -> Result<KeptClauses, NoMemory> {
         let mut watches = Vec::new(alloc);
         for _ in 0..vars.saturating_mul(2) {
@@ -70,17 +70,17 @@ impl KeptClauses {
         })
     }
 
-    /// How many of the clauses are lines.
+    /// Returns the number of clauses that are lines.
     pub(crate) fn lines(&self) -> usize {
         self.lines
     }
 
-    /// What is known of each clause.
+    /// Returns the head of each clause.
     pub(crate) fn heads(&self) -> &[ClauseHead] {
         &self.heads
     }
 
-    /// The codes of a clause's literals.
+    /// Returns the codes of a clause's literals.
     pub(crate) fn codes(&self, at: u32) -> &[u32] {
         let begin = at.saturating_add(WORDS_BEFORE_LITERALS) as usize;
         let end = begin + read(&self.words, at, 0) as usize;
@@ -91,12 +91,12 @@ impl KeptClauses {
         }
     }
 
-    /// How many literals a clause has.
+    /// Returns the number of a clause's literals.
     pub(crate) fn size(&self, at: u32) -> u32 {
         read(&self.words, at, 0)
     }
 
-    /// A literal of a clause, from 0.
+    /// Returns a literal of a clause, by place from 0.
     pub(crate) fn literal(&self, at: u32, place: u32) -> Literal {
         let at = at
             .saturating_add(WORDS_BEFORE_LITERALS)
@@ -106,7 +106,7 @@ impl KeptClauses {
         }
     }
 
-    /// The clause as a hint.
+    /// Returns the clause as a hint.
     pub(crate) fn name(&self, at: u32) -> Hint {
         let place = read(&self.words, at.saturating_add(1), u32::MAX) as usize;
         if place < self.heads.len() {
@@ -116,7 +116,7 @@ impl KeptClauses {
         }
     }
 
-    /// Puts a clause behind the others, and lets its first two literals be watched. Its place.
+    /// Appends a clause, watches its first two literals, and returns its place.
     pub(crate) fn add(
         &mut self,
         literals: &[Literal],
@@ -147,17 +147,17 @@ impl KeptClauses {
         Ok(at)
     }
 
-    /// How much a clause counts as used that is new.
+    /// Returns the use with which a new clause begins.
     pub(crate) fn use_of_new(&self) -> f64 {
         self.step
     }
 
-    /// Counts uses on as another list of clauses does.
+    /// Takes over the step with which another list of clauses counts uses.
     pub(crate) fn count_on_from(&mut self, other: &KeptClauses) {
         self.step = other.step;
     }
 
-    /// A conflict met a clause.
+    /// Counts a clause as met by a conflict.
     pub(crate) fn meet(&mut self, at: u32) {
         let place = read(&self.words, at.saturating_add(1), u32::MAX) as usize;
         if place >= self.heads.len() {
@@ -172,12 +172,12 @@ impl KeptClauses {
         }
     }
 
-    /// What is met from now on counts for more.
+    /// Makes later conflicts count for more.
     pub(crate) fn age(&mut self) {
         self.step = self.step / LINE_DECAY;
     }
 
-    /// The clauses that watch a literal, which has none then.
+    /// Takes the clauses that watch a literal, and leaves the literal without watches.
     pub(crate) fn take_watches(&mut self, alloc: Global, literal: Literal) -> Vec<KeptWatch> {
         let code = literal.code as usize;
         if code < self.watches.len() {
@@ -187,7 +187,7 @@ impl KeptClauses {
         }
     }
 
-    /// Puts back what `take_watches` took.
+    /// Puts back the watches that `take_watches` took.
     pub(crate) fn put_watches(&mut self, literal: Literal, watches: Vec<KeptWatch>) {
         let code = literal.code as usize;
         if code < self.watches.len() {
@@ -195,7 +195,7 @@ impl KeptClauses {
         }
     }
 
-    /// Lets a clause that watches a false literal watch one that isn't, if it has one.
+    /// Visits a clause that watches a false literal, and makes the clause watch a literal that isn't false, if it has another one.
     pub(crate) fn look(
         &mut self,
         trail: &KeptTrail,
@@ -239,7 +239,7 @@ impl KeptClauses {
         Ok(KeptLook::Forces(first))
     }
 
-    // One clause more watches a literal.
+    // Adds a clause to those that watch a literal.
     fn watch(&mut self, literal: Literal, watch: KeptWatch) -> Result<(), NoMemory> {
         let code = literal.code as usize;
         if code < self.watches.len() {

@@ -1,40 +1,23 @@
-//! What a refutation needs of all that was learnt, backwards from its last line.
+//! The cone of a refutation: what it needs of all that was learnt, traced backwards from its last line.
 
 use crate::cells::{filled, read, short, write};
-use crate::engine::Engine;
 use crate::grid::Grid;
 use crate::hint::Hint;
 use crate::lines::KeptLines;
 use std::alloc::{AllocError as NoMemory, Global};
 
-/// The lines that a last one needs, ascending, with it; and the places of the stations whose clauses or channels they name,
-/// ascending. It is kept from one refutation to the next, so that one costs what it needs, and not what was ever learnt.
+/// The lines that a last line needs, ascending, with itself; and the places of the stations whose clauses or channels these lines name,
+/// ascending. The lists are reused from one refutation to the next.
 #[derive(Drop)]
 pub(crate) struct Cone {
     pub(crate) lines: Vec<u32>,
     pub(crate) places: Vec<u32>,
-    // Of each line that was learnt its rank among these, from 1; 0 where it is none of them.
+    // For each learnt line its rank among these, from 1; 0 if the line isn't needed.
     ranks: Vec<u32>,
 }
 
-impl Engine {
-    /// Gathers what the line of this number needs, in the place of what was gathered before.
-    pub(crate) fn gather(&mut self, alloc: Global, line: u32) -> Result<(), NoMemory> {
-        self.cone.gather(alloc, &self.lines, &self.grid, line)
-    }
-
-    /// The stations that are named by what was gathered, ascending.
-    pub(crate) fn named(&self, alloc: Global) -> Result<Vec<u32>, NoMemory> {
-        let mut stations = Vec::new(alloc);
-        for place in &self.cone.places {
-            stations.push(self.grid.station_at(*place))?;
-        }
-        Ok(stations)
-    }
-}
-
 impl Cone {
-    /// No line.
+    /// Returns the empty cone.
     pub(crate) fn new(alloc: Global) -> Cone {
         Cone {
             lines: Vec::new(alloc),
@@ -43,12 +26,12 @@ impl Cone {
         }
     }
 
-    /// The rank of a line among those that are needed, from 1; 0 where it isn't.
+    /// Returns the rank of a line among the needed lines, from 1; 0 if the line isn't needed.
     pub(crate) fn rank(&self, line: u32) -> u32 {
         read(&self.ranks, line, 0)
     }
 
-    /// Gathers what the last of these lines needs, in the place of what was gathered before.
+    /// Gathers what the line `last` needs, in place of what was gathered before.
     pub(crate) fn gather(
         &mut self,
         alloc: Global,
@@ -89,7 +72,7 @@ impl Cone {
         self.places.clear();
     }
 
-    // A line is needed. Its rank is not known yet.
+    // Adds a needed line. Its rank follows later.
     fn need(&mut self, line: u32) -> Result<(), NoMemory> {
         if read(&self.ranks, line, 1) == 0 {
             self.lines.push(line)?;

@@ -1,4 +1,4 @@
-//! The searcher itself: what it knows of the stations, and the steps that its parts are made of.
+//! The engine of the search: its knowledge of the stations, and the basic steps of its parts.
 
 use crate::clauses::KeptClauses;
 use crate::cone::Cone;
@@ -14,9 +14,9 @@ use crate::ties::Ties;
 use crate::trail::KeptTrail;
 use std::alloc::{AllocError as NoMemory, Global};
 
-/// A conflict-driven search over the stations of a book. Variables are the channels of each station, and behind them one for
-/// each station that says that it is in the set. That no station stands on two channels, and that no pair does, is not stored
-/// in clauses: a channel that becomes true makes the others false.
+/// A conflict-driven search over the stations of a book. The variables are the channels of each station, and then a selector for each
+/// station, which says that the station is in the set. That no station has two channels, and that no pair interferes, is not stored in
+/// clauses: a channel that becomes true makes the others false.
 #[derive(Drop)]
 pub(crate) struct Engine {
     pub(crate) grid: Grid,
@@ -29,12 +29,12 @@ pub(crate) struct Engine {
     pub(crate) policy: Policy,
     pub(crate) restarts: Restarts,
     pub(crate) is_due: bool,
-    // The line in the making.
+    // The line being learnt.
     pub(crate) line: Vec<Literal>,
     pub(crate) hints: Vec<Hint>,
-    // Above so many stored lines, some are dropped at the next restart.
+    // With more stored lines than this, some are dropped at the next restart.
     pub(crate) room: usize,
-    // What is known is at odds with itself.
+    // Whether the knowledge is contradictory.
     pub(crate) is_lost: bool,
     // The places of the query's stations, of the tested one, and of those that wait for their test, the next one last.
     pub(crate) set: Vec<u32>,
@@ -43,7 +43,7 @@ pub(crate) struct Engine {
 }
 
 impl Engine {
-    /// Nothing is known but the stations, and none is on air.
+    /// Returns an engine that knows only the stations, none of which is on air.
     pub(crate) fn new(alloc: Global, grid: Grid, policy: Policy) -> Result<Engine, NoMemory> {
         let vars = grid.vars().saturating_add(grid.stations());
         Ok(Engine {
@@ -67,7 +67,7 @@ impl Engine {
         })
     }
 
-    /// Lets a seed other than 0 break ties by chance.
+    /// Makes a seed other than 0 break ties by chance.
     pub(crate) fn scatter(&mut self, seed: u64) {
         if seed != 0 {
             let ties = Ties::new(seed, 0);
@@ -75,17 +75,17 @@ impl Engine {
         }
     }
 
-    /// The variable that says that the station at a place is in the set.
+    /// Returns the selector of the station at a place.
     pub(crate) fn selector(&self, place: u32) -> u32 {
         self.grid.vars().saturating_add(place)
     }
 
-    /// Whether a variable is of a channel.
+    /// Checks whether a variable belongs to a channel, not to a selector.
     pub(crate) fn is_channel(&self, var: u32) -> bool {
         var < self.grid.vars()
     }
 
-    /// Makes an open literal true. At level 0 that is a fact, and gets a line.
+    /// Makes an open literal true. At level 0 a literal with a reason is a fact, and gets a line.
     pub(crate) fn assign(&mut self, literal: Literal, reason: Reason) -> Result<(), NoMemory> {
         self.trail.push(literal, reason)?;
         if literal.is_negated() {
@@ -97,7 +97,7 @@ impl Engine {
         Ok(())
     }
 
-    /// The station at a place comes into play: its variables can be decided, and at first it is tried on its last channel.
+    /// Brings the station at a place into play: its variables can be decided, and its last channel is tried first.
     pub(crate) fn disturb(&mut self, place: u32) -> Result<(), NoMemory> {
         if self.play.bring_in(place)? {
             let channel = self.play.standing(place).channel;
@@ -113,7 +113,7 @@ impl Engine {
         Ok(())
     }
 
-    /// Takes back all levels above one.
+    /// Undoes all levels above this one.
     pub(crate) fn go_back(&mut self, level: u32) -> Result<(), NoMemory> {
         for _ in 0..self.trail.len() {
             let Some(literal) = self.trail.take_back(level) else {
@@ -129,7 +129,7 @@ impl Engine {
         Ok(())
     }
 
-    /// The clause that a reason is, as a hint.
+    /// Returns the clause of a reason as a hint.
     pub(crate) fn name(&self, reason: Reason) -> Hint {
         match reason {
             Reason::Chosen => Hint::Line(u32::MAX),
@@ -138,7 +138,7 @@ impl Engine {
         }
     }
 
-    /// How many literals a reason has.
+    /// Returns the number of a reason's literals.
     pub(crate) fn size(&self, reason: Reason) -> u32 {
         match reason {
             Reason::Chosen => 0,
@@ -147,7 +147,7 @@ impl Engine {
         }
     }
 
-    /// A literal of a reason, from 0.
+    /// Returns a literal of a reason, by place from 0.
     pub(crate) fn literal(&self, reason: Reason, place: u32) -> Literal {
         match reason {
             Reason::Chosen => Literal::of(0),
@@ -156,7 +156,21 @@ impl Engine {
         }
     }
 
-    // The station of a variable that became false comes into play, where that was its last channel.
+    /// Gathers what the line of this number needs, in place of what was gathered before.
+    pub(crate) fn gather(&mut self, alloc: Global, line: u32) -> Result<(), NoMemory> {
+        self.cone.gather(alloc, &self.lines, &self.grid, line)
+    }
+
+    /// Returns the stations that the gathered lines name, ascending.
+    pub(crate) fn named(&self, alloc: Global) -> Result<Vec<u32>, NoMemory> {
+        let mut stations = Vec::new(alloc);
+        for place in &self.cone.places {
+            stations.push(self.grid.station_at(*place))?;
+        }
+        Ok(stations)
+    }
+
+    // Brings the station of a variable that became false into play, if the variable was its last channel.
     fn disturb_owner(&mut self, var: u32) -> Result<(), NoMemory> {
         if !self.is_channel(var) {
             return Ok(());
@@ -169,7 +183,7 @@ impl Engine {
         Ok(())
     }
 
-    // A line that says one literal, by the facts before it and its reason.
+    // Adds the line of a fact: one literal, which follows from earlier facts and its reason.
     fn note_fact(&mut self, literal: Literal, reason: Reason) -> Result<(), NoMemory> {
         self.hints.clear();
         for place in 0..self.size(reason) {

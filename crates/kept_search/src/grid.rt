@@ -1,22 +1,23 @@
-//! A book as numbers: a place for each station, a variable for each of its channels, and of each variable those that
-//! interfere with it. Here and in what calls this, `station` is a station's own number, and `place` where the book has it.
+//! A book as numbers: a place for each station, a variable for each of its channels, and for each variable its rivals. A variable's
+//! rivals are the variables that interfere with it. Here and in the callers, `station` is a facility number, and `place` its index in
+//! the book.
 
 use crate::cells::{filled, part, read, short, write};
 use pack_defs::book::Book;
 use std::alloc::{AllocError as NoMemory, Global};
 use std::ops::Range;
 
-/// Places of stations and variables, both from 0 and in the order of the book. Lists of rivals are made once and lie flat.
+/// The places of stations and the variables, both from 0 and in the order of the book. The rivals are listed once, in one flat list.
 #[derive(Drop)]
 pub(crate) struct Grid {
-    // Of each place the number of its station.
+    // For each place the facility number of its station.
     stations: Vec<u32>,
-    // Of each place the first variable of its station, and behind the last how many there are.
+    // For each place the first variable of its station; then the number of variables.
     firsts: Vec<u32>,
-    // Of each variable the place of its station, and its channel.
+    // For each variable the place of its station, and its channel.
     owners: Vec<u32>,
     channels: Vec<u8>,
-    // Of each variable where its rivals begin, and behind the last how many there are.
+    // For each variable where its rivals begin; then the number of rivals.
     begins: Vec<u32>,
     rivals: Vec<u32>,
     top: u8,
@@ -31,7 +32,7 @@ struct Couple {
 }
 
 impl Grid {
-    /// The numbers of a book.
+    /// Numbers the stations, channels and pairs of a book.
     pub(crate) fn of(alloc: Global, book: &Book) -> Result<Grid, NoMemory> {
         let mut grid = Grid::empty(alloc, book.top(), book.pairs().len());
         for place in 0..book.len() {
@@ -44,7 +45,7 @@ impl Grid {
         Ok(grid)
     }
 
-    /// The same numbers once more.
+    /// Copies the numbers.
     pub(crate) fn copy(&self, alloc: Global) -> Result<Grid, NoMemory> {
         Ok(Grid {
             stations: Vec::from_slice(alloc, &self.stations)?,
@@ -71,30 +72,30 @@ impl Grid {
         }
     }
 
-    /// Whether these may be the numbers of a book: as many stations, channels and pairs. Another book of the same size leads
-    /// to suggestions that are worth nothing.
+    /// Checks whether these may be the numbers of the book, that is, whether the numbers of stations, top channels and numbers of pairs
+    /// agree. For another book of the same size, suggestions are worthless.
     pub(crate) fn may_be_of(&self, book: &Book) -> bool {
         self.stations.len() == book.len() as usize
             && self.top == book.top()
             && self.pairs == book.pairs().len()
     }
 
-    /// The number of stations.
+    /// Returns the number of stations.
     pub(crate) fn stations(&self) -> u32 {
         short(self.stations.len())
     }
 
-    /// The number of variables.
+    /// Returns the number of variables.
     pub(crate) fn vars(&self) -> u32 {
         short(self.owners.len())
     }
 
-    /// The number of the station at a place.
+    /// Returns the facility number of the station at a place.
     pub(crate) fn station_at(&self, place: u32) -> u32 {
         read(&self.stations, place, 0)
     }
 
-    /// The place of a station, if the book has it.
+    /// Returns the place of a station, if the book has the station.
     pub(crate) fn place_of(&self, station: u32) -> Option<u32> {
         match self.stations.binary_search(&station) {
             Ok(place) => Some(short(place)),
@@ -102,23 +103,23 @@ impl Grid {
         }
     }
 
-    /// The variables of the station at a place.
+    /// Returns the variables of the station at a place.
     pub(crate) fn vars_of(&self, place: u32) -> Range<u32> {
         let end = read(&self.firsts, place.saturating_add(1), 0);
         read(&self.firsts, place, end)..end
     }
 
-    /// The place of a variable's station.
+    /// Returns the place of a variable's station.
     pub(crate) fn owner(&self, var: u32) -> u32 {
         read(&self.owners, var, u32::MAX)
     }
 
-    /// The channel of a variable.
+    /// Returns the channel of a variable.
     pub(crate) fn channel(&self, var: u32) -> u8 {
         read(&self.channels, var, 0)
     }
 
-    /// The variable of a channel of the station at a place, if it may use that.
+    /// Returns the variable of a channel of the station at a place, if the station may use the channel.
     pub(crate) fn var_of(&self, place: u32, channel: u8) -> Option<u32> {
         let vars = self.vars_of(place);
         match part(&self.channels, vars.start, vars.end).binary_search(&channel) {
@@ -127,18 +128,18 @@ impl Grid {
         }
     }
 
-    /// The places of the variables that interfere with this one, ascending, for `rival`.
+    /// Returns the places, for `rival`, of the variables that interfere with this one, ascending.
     pub(crate) fn rivals_of(&self, var: u32) -> Range<u32> {
         let end = read(&self.begins, var.saturating_add(1), 0);
         read(&self.begins, var, end)..end
     }
 
-    /// The variable at a place of the rivals.
+    /// Returns the variable at a place of the rivals.
     pub(crate) fn rival(&self, place: u32) -> u32 {
         read(&self.rivals, place, 0)
     }
 
-    /// The variables that interfere with this one, ascending.
+    /// Returns the variables that interfere with this one, ascending.
     pub(crate) fn rival_list(&self, var: u32) -> &[u32] {
         let places = self.rivals_of(var);
         part(&self.rivals, places.start, places.end)
@@ -159,7 +160,7 @@ impl Grid {
         Ok(())
     }
 
-    // The variables of each pair of the book, in its order.
+    // Lists the two variables of each pair of the book, in its order.
     fn couples(&self, alloc: Global, book: &Book) -> Result<Vec<Couple>, NoMemory> {
         let mut couples = Vec::with_capacity(alloc, self.pairs)?;
         for pair in book.pairs() {
@@ -176,8 +177,8 @@ impl Grid {
         self.var_of(self.place_of(station)?, channel)
     }
 
-    // Counts the rivals of each variable, and then puts each in its place. A variable's come in the order of the pairs, those
-    // of the stations before its own first, so that they ascend.
+    // Counts the rivals of each variable, then stores them. The rivals of a variable come in the order of the pairs, those of the
+    // stations before its own first, so they ascend.
     fn add_rivals(&mut self, alloc: Global, couples: &[Couple]) -> Result<(), NoMemory> {
         let vars = self.vars();
         let mut nexts = filled(alloc, vars, 0)?;
@@ -202,7 +203,7 @@ impl Grid {
     }
 }
 
-// Adds one to a count. What it was.
+// Adds one to a count and returns the old count.
 fn count_one(counts: &mut [u32], at: u32) -> u32 {
     let count = read(counts, at, 0);
     write(counts, at, count.saturating_add(1));

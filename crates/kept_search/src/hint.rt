@@ -1,11 +1,11 @@
-//! What a line that the searcher learns rests on.
+//! The clauses that a learnt line depends on.
 
 /// A clause that a line's derivation uses.
 #[derive(Clone, Copy, Debug, PartialEq, Eq)]
 pub(crate) enum Hint {
     /// Two variables that may not both be true: two channels of one station, or two that interfere.
     Pair { v: u32, w: u32 },
-    /// The clause of the station at this place: it stands on one of its channels, if it is in the set.
+    /// The clause of the station at this place: the station, if in the set, is on one of its channels.
     Own(u32),
     /// An earlier line.
     Line(u32),
@@ -14,9 +14,9 @@ pub(crate) enum Hint {
 /// Why a literal is true.
 #[derive(Clone, Copy, Debug, PartialEq, Eq)]
 pub(crate) enum Reason {
-    /// It was decided, or is taken for granted.
+    /// The literal was decided or assumed.
     Chosen,
-    /// The other of two variables that may not both be true is.
+    /// The literal negates one of two variables that may not both be true, and the other variable is true.
     Pair { v: u32, w: u32 },
     /// All other literals of the stored clause at this place are false.
     Clause { at: u32 },

@@ -1,4 +1,4 @@
-//! Every line that was learnt and may still be needed for a log.
+//! Every learnt line that a log may still need.
 
 use crate::cells::{filled, part, read, short, write};
 use crate::hint::Hint;
@@ -6,30 +6,31 @@ use crate::literal::Literal;
 use crate::policy::LINES_HELD_TO_ONE_NEW;
 use std::alloc::{AllocError as NoMemory, Global};
 
-// A hint begins with one of these: the first of two variables, the place of a station, or the number of a line with neither.
+// The flags of a hint's first word: `PAIR` for the first of two variables, `OWN` for the place of a station, none for the number of a
+// line.
 const PAIR: u32 = 1 << 31;
 
 const OWN: u32 = 1 << 30;
 
-// Where a line begins that is not held any more.
+// The beginning of a line that is no longer stored.
 const LET_GO: u32 = u32::MAX;
 
-/// Lines by number, from 0, one behind the other in one list: of each how many words it takes, how many literals it has, these,
-/// and its hints. Of a fact, a literal that is true at level 0, the number of its line is kept.
+/// Lines by number, from 0, stored one after the other in one list. A line has its length in words, its number of literals, the
+/// literals, and its hints. For each fact, a literal that is true at level 0, the number of its line is stored.
 #[derive(Drop)]
 pub(crate) struct KeptLines {
     words: Vec<u32>,
-    // Of each line where it begins.
+    // Where each line begins.
     begins: Vec<u32>,
-    // Of each variable the number of its fact and one more; 0 where there is none.
+    // For each variable the number of its fact plus one; 0 if it has none.
     facts: Vec<u32>,
-    // So many lines are held, and were after the last sweep.
+    // How many lines are stored, and how many were after the last sweep.
     held: usize,
     swept: usize,
 }
 
 impl KeptLines {
-    /// No line over so many variables.
+    /// Returns the empty list of lines over this many variables.
     pub(crate) fn new(alloc: Global, vars: u32) -> Result<KeptLines, NoMemory> {
         Ok(KeptLines {
             words: Vec::new(alloc),
@@ -40,12 +41,12 @@ impl KeptLines {
         })
     }
 
-    /// How many lines were learnt.
+    /// Returns the number of lines that were ever learnt.
     pub(crate) fn len(&self) -> u32 {
         short(self.begins.len())
     }
 
-    /// Puts a line behind the others. Its number.
+    /// Appends a line and returns its number.
     pub(crate) fn add(&mut self, literals: &[Literal], hints: &[Hint]) -> Result<u32, NoMemory> {
         let number = self.len();
         let begin = short(self.words.len());
@@ -64,7 +65,7 @@ impl KeptLines {
         Ok(number)
     }
 
-    /// The line of a variable that is a fact.
+    /// Returns the line of a variable, if the variable is a fact.
     pub(crate) fn fact(&self, var: u32) -> Option<u32> {
         match read(&self.facts, var, 0) {
             0 => None,
@@ -72,12 +73,12 @@ impl KeptLines {
         }
     }
 
-    /// Notes the line of a variable that became a fact.
+    /// Records the line of a variable that became a fact.
     pub(crate) fn set_fact(&mut self, var: u32, number: u32) {
         write(&mut self.facts, var, number.saturating_add(1));
     }
 
-    /// The literals of a line.
+    /// Reads the literals of a line into `literals`.
     pub(crate) fn literals(
         &self,
         number: u32,
@@ -94,7 +95,7 @@ impl KeptLines {
         Ok(())
     }
 
-    /// The hints of a line.
+    /// Reads the hints of a line into `hints`.
     pub(crate) fn hints(&self, number: u32, hints: &mut Vec<Hint>) -> Result<(), NoMemory> {
         hints.clear();
         let words = self.words(number);
@@ -121,7 +122,7 @@ impl KeptLines {
         Ok(())
     }
 
-    /// Whether so many lines are held that it is time to let some go.
+    /// Checks whether so many lines are stored that a sweep is due.
     pub(crate) fn is_full(&self, spare: usize) -> bool {
         self.held
             > self
@@ -130,7 +131,7 @@ impl KeptLines {
                 .saturating_add(spare)
     }
 
-    /// Lets go of the lines that neither a fact nor one of these needs, directly or by another line.
+    /// Deletes the lines that neither a fact nor one of the `needed` lines uses, directly or through other lines.
     pub(crate) fn sweep(&mut self, alloc: Global, needed: &mut [bool]) -> Result<(), NoMemory> {
         for number in &self.facts {
             if *number > 0 {
@@ -153,7 +154,7 @@ impl KeptLines {
         Ok(())
     }
 
-    // Moves these lines together, and lets the others go.
+    // Compacts the needed lines, and deletes the others.
     fn hold_alone(&mut self, needed: &[bool]) {
         let mut end: u32 = 0;
         for number in 0..self.len() {
@@ -176,7 +177,7 @@ impl KeptLines {
         self.words.truncate(end as usize);
     }
 
-    // How many literals a line has, these, and its hints.
+    // Returns the words of a line behind its length: the number of literals, the literals, and the hints.
     fn words(&self, number: u32) -> &[u32] {
         let begin = read(&self.begins, number, LET_GO);
         if begin == LET_GO {

@@ -1,4 +1,4 @@
-//! The marks by which a conflict is analysed.
+//! The marks and scratch lists of conflict analysis.
 
 use crate::cells::{filled, read, write};
 use crate::hint::Hint;
@@ -8,37 +8,36 @@ use std::alloc::{AllocError as NoMemory, Global};
 #[derive(Clone, Copy, Debug, PartialEq, Eq)]
 pub(crate) enum Mark {
     Unmet,
-    /// Its literal is false by the conflict, and stands in the line unless it is resolved.
+    /// Its literal is false by the conflict, and will be in the line unless it is resolved.
     Met,
-    /// Its literal was resolved away by its reason.
+    /// Its literal was resolved with its reason.
     Resolved,
-    /// Its literal stands in the line.
+    /// Its literal is in the line.
     InLine,
 }
 
-/// A clause that a line's derivation uses, by when it comes: facts first, by their lines, then the reasons of literals as they
-/// came to the trail.
+/// A clause that a line's derivation uses, with its rank: facts come first, by their lines, then the reasons of literals in trail order.
 #[derive(Clone, Copy)]
 struct Antecedent {
     rank: u64,
     hint: Hint,
 }
 
-/// A mark for each variable, and lists that each analysis uses anew.
+/// A mark for each variable, and lists that every analysis reuses.
 #[derive(Drop)]
 pub(crate) struct AnalysisMarks {
     marks: Vec<Mark>,
     marked: Vec<u32>,
-    // Of each level the latest count in which it was counted.
+    // For each level the last count that met the level.
     counted: Vec<u32>,
     count: u32,
-    // Variables whose reasons are yet to be looked at, and the hints so far.
+    // Variables whose reasons are still to be visited, and the hints so far.
     waiting: Vec<u32>,
     antecedents: Vec<Antecedent>,
 }
 
 impl AnalysisMarks {
-    /// No mark on any of so many variables.
+    /// Returns marks for this many variables, all unmet.
     pub(crate) fn new(alloc: Global, vars: u32) -> Result<AnalysisMarks, NoMemory> {
         Ok(AnalysisMarks {
             marks: filled(alloc, vars, Mark::Unmet)?,
@@ -50,24 +49,24 @@ impl AnalysisMarks {
         })
     }
 
-    /// The mark of a variable.
+    /// Returns the mark of a variable.
     pub(crate) fn of(&self, var: u32) -> Mark {
         read(&self.marks, var, Mark::InLine)
     }
 
-    /// Marks a variable that is unmet.
+    /// Marks an unmet variable.
     pub(crate) fn mark(&mut self, var: u32, mark: Mark) -> Result<(), NoMemory> {
         write(&mut self.marks, var, mark);
         self.marked.push(var)?;
         Ok(())
     }
 
-    /// Gives a variable that is marked another mark.
+    /// Changes the mark of a marked variable.
     pub(crate) fn change(&mut self, var: u32, mark: Mark) {
         write(&mut self.marks, var, mark);
     }
 
-    /// No variable is resolved any more.
+    /// Resets the mark of each resolved variable.
     pub(crate) fn forget_resolved(&mut self) {
         for var in &self.marked {
             if read(&self.marks, *var, Mark::Unmet) == Mark::Resolved {
@@ -76,7 +75,7 @@ impl AnalysisMarks {
         }
     }
 
-    /// No variable has a mark any more.
+    /// Resets all marks.
     pub(crate) fn clear(&mut self) {
         for var in &self.marked {
             write(&mut self.marks, *var, Mark::Unmet);
@@ -90,24 +89,24 @@ impl AnalysisMarks {
         self.waiting.clear();
     }
 
-    /// A hint is needed, which comes at this rank.
+    /// Adds a hint with its rank.
     pub(crate) fn need(&mut self, rank: u64, hint: Hint) -> Result<(), NoMemory> {
         self.antecedents.push(Antecedent { rank, hint })?;
         Ok(())
     }
 
-    /// The reason of a variable is yet to be looked at.
+    /// Queues a variable whose reason is still to be visited.
     pub(crate) fn wait(&mut self, var: u32) -> Result<(), NoMemory> {
         self.waiting.push(var)?;
         Ok(())
     }
 
-    /// A variable whose reason is yet to be looked at, if one is left.
+    /// Returns a variable whose reason is still to be visited, if one is left.
     pub(crate) fn next_waiting(&mut self) -> Option<u32> {
         self.waiting.pop()
     }
 
-    /// The hints by their ranks.
+    /// Lists the hints by rank.
     pub(crate) fn list_hints(&mut self, hints: &mut Vec<Hint>) -> Result<(), NoMemory> {
         self.antecedents.sort_unstable_by_key(|a| a.rank);
         hints.clear();
@@ -122,7 +121,7 @@ impl AnalysisMarks {
         self.count = self.count.wrapping_add(1);
     }
 
-    /// Whether a level comes for the first time in this count.
+    /// Checks whether this count meets the level for the first time, and records the level.
     pub(crate) fn is_new(&mut self, level: u32) -> bool {
         if read(&self.counted, level, self.count) == self.count {
             return false;

@@ -1,5 +1,7 @@
-//! From the searcher's variables and lines to a log over the packing formula of some stations, whose clauses are numbered: first
-//! a clause for each station, then for each station its channels two by two, and then the pairs that interfere.
+//! Turns the searcher's variables and lines into a log over the packing formula of some stations.
+//!
+//! The formula's clauses are numbered: first a clause for each station, then for each station its channels two by two, then the pairs
+//! that interfere.
 
 use crate::cells::{part, read, short, write};
 use crate::cone::Cone;
@@ -15,12 +17,13 @@ use std::alloc::{AllocError as NoMemory, Global};
 /// The numbers of the formula's variables and clauses.
 #[derive(Drop)]
 struct Numbering {
-    // Of each variable its number, from 1; 0 where its station is not one of these.
+    // For each variable its number, from 1; 0 if its station is not one of these.
     vars: Vec<u32>,
-    // Of each place the number of its station's own clause, and how many come before those of its channels two by two.
+    // For each place the number of its station's own clause, and the number of clauses before those of its channels two by two.
     owns: Vec<u32>,
     twos: Vec<u64>,
-    // Of each variable how many clauses come before its pairs, and where these begin among the variables of all pairs.
+    // For each variable the number of clauses before its pairs, and where its pairs begin and end among the second variables of
+    // all pairs.
     befores: Vec<u64>,
     begins: Vec<u32>,
     ends: Vec<u32>,
@@ -29,18 +32,18 @@ struct Numbering {
     clauses: u64,
 }
 
-/// What a line is read into, kept from one line to the next.
+/// Buffers for one line, reused from line to line.
 #[derive(Drop)]
 struct LineParts {
     literals: Vec<Literal>,
     hints: Vec<Hint>,
-    // The same as numbers of the formula.
+    // The literals and hints as numbers of the formula.
     lits: Vec<Lit>,
     numbers: Vec<u64>,
 }
 
 impl LineParts {
-    // No line.
+    // Returns empty buffers.
     fn none(alloc: Global) -> LineParts {
         LineParts {
             literals: Vec::new(alloc),
@@ -52,7 +55,7 @@ impl LineParts {
 }
 
 impl Engine {
-    /// The log that the cone is, without the literals that say of a station that it is in the set.
+    /// Returns the log of the cone, without the literals of selector variables.
     pub(crate) fn log(&self, alloc: Global) -> Result<Log, NoMemory> {
         let numbering = Numbering::of(alloc, &self.grid, &self.cone.places)?;
         let mut lines = Lines::new(alloc);
@@ -75,7 +78,7 @@ impl Engine {
         Ok(())
     }
 
-    // The literals of a line, without those that say of a station that it is in the set.
+    // Numbers the literals of a line, without those of selector variables.
     fn number_literals(
         &self,
         numbering: &Numbering,
@@ -95,7 +98,7 @@ impl Engine {
         Ok(())
     }
 
-    // The hints of a line.
+    // Numbers the hints of a line.
     fn number_hints(
         &self,
         numbering: &Numbering,
@@ -114,7 +117,7 @@ impl Engine {
 }
 
 impl Numbering {
-    // The numbers of the packing formula of the stations at these places.
+    // Numbers the packing formula of the stations at these places.
     fn of(alloc: Global, grid: &Grid, places: &[u32]) -> Result<Numbering, NoMemory> {
         let mut numbering = Numbering::none(alloc);
         numbering.make_room(grid)?;
@@ -122,7 +125,7 @@ impl Numbering {
         Ok(numbering)
     }
 
-    // No variable and no clause.
+    // Returns the numbering of no variable and no clause.
     fn none(alloc: Global) -> Numbering {
         Numbering {
             vars: Vec::new(alloc),
@@ -136,7 +139,7 @@ impl Numbering {
         }
     }
 
-    // Makes room for the numbers of each variable and each station.
+    // Allocates the numbers of each variable and each station.
     fn make_room(&mut self, grid: &Grid) -> Result<(), NoMemory> {
         let vars = grid.vars() as usize;
         let stations = grid.stations() as usize;
@@ -177,7 +180,7 @@ impl Numbering {
         }
     }
 
-    // The pairs whose first variable this is.
+    // Numbers the pairs whose first variable this is.
     fn number_pairs(&mut self, grid: &Grid, var: u32) -> Result<(), NoMemory> {
         write(&mut self.befores, var, self.clauses);
         write(&mut self.begins, var, short(self.seconds.len()));
@@ -191,7 +194,7 @@ impl Numbering {
         Ok(())
     }
 
-    // The number of a clause of the formula, or of a line behind it.
+    // Returns the number of a clause of the formula, or of a line behind the formula.
     fn number(&self, grid: &Grid, cone: &Cone, hint: Hint) -> u64 {
         match hint {
             Hint::Own(place) => read(&self.owns, place, 0) as u64,
@@ -207,7 +210,7 @@ impl Numbering {
         }
     }
 
-    // Of a station's channels the first with each later one comes first, and so on.
+    // Returns the number of the clause of two channels of a station. The first channel comes first, with each later one, and so on.
     fn number_of_two(&self, grid: &Grid, first: u32, second: u32) -> u64 {
         let place = grid.owner(first);
         let vars = grid.vars_of(place);

@@ -11,7 +11,7 @@ use crate::trail::Value;
 use std::alloc::AllocError as NoMemory;
 
 impl Engine {
-    /// The station at a place stands on air, on the channel of this variable.
+    /// Puts the station at a place on air, on the channel of this variable.
     pub(crate) fn stand(&mut self, place: u32, var: u32) -> Result<(), NoMemory> {
         let standing = self.play.standing(place);
         if !standing.on_air {
@@ -23,7 +23,7 @@ impl Engine {
         Ok(())
     }
 
-    /// Whether of these stations at most one in so many is not on air yet, the tested one left out.
+    /// Checks whether at most one in `one_in` of these stations is not on air yet, not counting the tested station.
     pub(crate) fn knows_most(&self, stations: &[u32], tested: u32, one_in: u32) -> bool {
         let mut others: u32 = 0;
         for station in stations {
@@ -34,7 +34,7 @@ impl Engine {
         others.saturating_mul(one_in) <= short(stations.len())
     }
 
-    /// Begins the test of the station at a place beside those on air, by this policy.
+    /// Begins the test of the station at a place together with the stations on air, by this policy.
     pub(crate) fn begin(&mut self, place: u32, policy: Policy) -> Result<(), NoMemory> {
         self.go_back(0)?;
         self.play.clear();
@@ -53,7 +53,7 @@ impl Engine {
         Ok(())
     }
 
-    /// Goes on with the standing test by another policy: from the start, but with the values that its variables had last.
+    /// Continues the current test by another policy. The search restarts but keeps the last values of its variables.
     pub(crate) fn go_on_by(&mut self, policy: Policy) -> Result<(), NoMemory> {
         self.go_back(0)?;
         self.policy = policy;
@@ -62,7 +62,7 @@ impl Engine {
         self.disturb_all()
     }
 
-    /// Lets the search try the station at a place on the channel of this variable first.
+    /// Makes the search try the station at a place on the channel of this variable first.
     pub(crate) fn prefer(&mut self, place: u32, var: u32) -> Result<(), NoMemory> {
         self.disturb(place)?;
         let last = self.play.standing(place).channel;
@@ -71,7 +71,7 @@ impl Engine {
         Ok(())
     }
 
-    /// Where a fit was found: each station that it moves stands on its new channel, the tested one among them.
+    /// Adopts the fit on the trail: each station of the set, the tested one included, gets its new channel.
     pub(crate) fn adopt(&mut self) {
         for at in 0..self.trail.len() {
             let literal = self.trail.at(at);
@@ -88,7 +88,7 @@ impl Engine {
         }
     }
 
-    /// Ends a query: the tested station is not in the set any more.
+    /// Ends a query: the tested station leaves the set unless it is on air.
     pub(crate) fn end(&mut self) -> Result<(), NoMemory> {
         self.go_back(0)?;
         self.play.clear();
@@ -105,7 +105,7 @@ impl Engine {
         }
     }
 
-    // Each station of the set that is on air comes into play.
+    // Brings each station of the set into play.
     fn disturb_all(&mut self) -> Result<(), NoMemory> {
         for i in 0..short(self.set.len()) {
             let place = read(&self.set, i, NOBODY);
@@ -116,7 +116,7 @@ impl Engine {
         Ok(())
     }
 
-    // The station at a place comes on air for good.
+    // Puts the station at a place on air for good.
     fn join(&mut self, place: u32) -> Result<(), NoMemory> {
         self.go_back(0)?;
         self.activate(place)?;
@@ -132,7 +132,7 @@ impl Engine {
         Ok(())
     }
 
-    // The station at a place is in the set: its own clause, and what the facts say of its channels.
+    // Adds the station at a place to the set: stores its clause, and rules out its channels that interfere with facts.
     fn activate(&mut self, place: u32) -> Result<(), NoMemory> {
         let mut standing = self.play.standing(place);
         let is_new = !standing.has_clause;
@@ -148,7 +148,7 @@ impl Engine {
         Ok(())
     }
 
-    // An open variable is false where one that interferes is a fact.
+    // Makes an open variable false if a variable that interferes with it is true.
     fn rule_out_by_facts(&mut self, v: u32) -> Result<(), NoMemory> {
         if !self.trail.is_open(v) {
             return Ok(());
@@ -162,7 +162,7 @@ impl Engine {
         Ok(())
     }
 
-    // The station at a place, if it is in the set, stands on one of its channels.
+    // Adds the station's own clause: the station at a place, if in the set, is on one of its channels.
     fn add_own_clause(&mut self, place: u32) -> Result<(), NoMemory> {
         self.line.clear();
         for var in self.grid.vars_of(place) {

@@ -1,4 +1,4 @@
-//! Where the stations stand, which of them a query stirs, and which variable is decided next.
+//! The state of each station, which stations a query has in play, and which variable is decided next.
 
 use crate::cells::{filled, read, write};
 use crate::order::ActivityOrder;
@@ -11,15 +11,15 @@ pub(crate) const NOWHERE: u32 = u32::MAX;
 /// The place of no station.
 pub(crate) const NOBODY: u32 = u32::MAX;
 
-/// How a station stands.
+/// The state of a station.
 #[derive(Clone, Copy)]
 pub(crate) struct StationState {
-    /// It is on air, or tested.
+    /// The station is on air or tested.
     pub(crate) in_set: bool,
     pub(crate) on_air: bool,
     /// Its own clause is stored.
     pub(crate) has_clause: bool,
-    /// Its variables are decided: it is tested, its last channel became false in this query, or the search was told so.
+    /// Its variables are decided: the station is tested, its last channel became false in this query, or the search brought it in.
     pub(crate) in_play: bool,
     /// The variable of its last channel.
     pub(crate) channel: u32,
@@ -33,11 +33,11 @@ const OFF_AIR: StationState = StationState {
     channel: NOWHERE,
 };
 
-/// The stations, and what guides the search among those in play.
+/// The states of the stations, and the order and phases that guide the search among those in play.
 #[derive(Drop)]
 pub(crate) struct Play {
     standings: Vec<StationState>,
-    // Of each variable the value that it had last, and with which it is tried first.
+    // For each variable its last value, with which it is tried first.
     phases: Vec<bool>,
     pub(crate) order: ActivityOrder,
     // The places of the stations in play.
@@ -45,7 +45,7 @@ pub(crate) struct Play {
 }
 
 impl Play {
-    /// No station of so many is on air, and none of the variables was ever met.
+    /// Returns the state in which none of this many stations is on air, and no conflict has met a variable.
     pub(crate) fn new(alloc: Global, stations: u32, vars: u32) -> Result<Play, NoMemory> {
         Ok(Play {
             standings: filled(alloc, stations, OFF_AIR)?,
@@ -55,32 +55,32 @@ impl Play {
         })
     }
 
-    /// How the station at a place stands.
+    /// Returns the state of the station at a place.
     pub(crate) fn standing(&self, place: u32) -> StationState {
         read(&self.standings, place, OFF_AIR)
     }
 
-    /// Notes how the station at a place stands.
+    /// Sets the state of the station at a place.
     pub(crate) fn set(&mut self, place: u32, standing: StationState) {
         write(&mut self.standings, place, standing);
     }
 
-    /// Whether the station at a place is on air or tested.
+    /// Checks whether the station at a place is on air or tested.
     pub(crate) fn is_in_set(&self, place: u32) -> bool {
         self.standing(place).in_set
     }
 
-    /// The value with which a variable is tried.
+    /// Returns the value with which a variable is tried first.
     pub(crate) fn phase(&self, var: u32) -> bool {
         read(&self.phases, var, false)
     }
 
-    /// Notes the value with which a variable is to be tried.
+    /// Sets the value with which a variable is tried first.
     pub(crate) fn set_phase(&mut self, var: u32, value: bool) {
         write(&mut self.phases, var, value);
     }
 
-    /// The station at a place comes into play. Whether it was not yet.
+    /// Brings the station at a place into play, and returns whether it was out of play before.
     pub(crate) fn bring_in(&mut self, place: u32) -> Result<bool, NoMemory> {
         let mut standing = self.standing(place);
         if standing.in_play {
@@ -92,7 +92,7 @@ impl Play {
         Ok(true)
     }
 
-    /// No station is in play, and no variable waits to be decided.
+    /// Takes all stations out of play, and all variables out of the order.
     pub(crate) fn clear(&mut self) {
         self.order.clear();
         for _ in 0..self.played.len() {

@@ -1,9 +1,10 @@
-//! What follows from the literals that are true, until nothing more does or a clause is false.
+//! Unit propagation with two watched literals (MiniSat, Eén and Sörensson 2003): what follows from the true literals, until nothing more
+//! follows or a clause is false.
 //!
-//! `visit` goes along the clauses that watch a literal which became false. One whose blocker is true stays without a look,
-//! and so does each behind a false clause. Of the others one whose other watched literal is true stays, and one that finds
-//! a literal to watch in the place of the false one leaves the list. The rest stay: the other watched literal becomes true
-//! where it is open, and the clause is the conflict where it is false. What is looked at and stays has it for its blocker.
+//! `visit` goes through the clauses that watch a literal which became false. A clause whose blocker is true stays without a visit, and
+//! so does each clause behind a false one. Of the visited clauses, one that finds another literal to watch leaves the list. The rest
+//! stay. If the other watched literal is open, the clause makes it true; if it is false, the clause is the conflict. It becomes the
+//! blocker.
 
 use crate::clauses::{KeptLook, KeptWatch};
 use crate::engine::Engine;
@@ -13,9 +14,9 @@ use crate::trail::Value;
 use std::alloc::{AllocError as NoMemory, Global};
 
 impl Engine {
-    /// Propagates the literals that are new on the trail. The clause that is false then, if one is.
+    /// Propagates the new literals of the trail, and returns the false clause, if one is found.
     pub(crate) fn propagate(&mut self, alloc: Global) -> Result<Option<Reason>, NoMemory> {
-        // Each variable comes to the trail once.
+        // Each variable comes to the trail at most once.
         for _ in 0..self.trail.vars() {
             let Some(literal) = self.trail.next() else {
                 return Ok(None);
@@ -32,7 +33,7 @@ impl Engine {
         Ok(None)
     }
 
-    // A station stands on a channel: on no other one, and nobody on one that interferes.
+    // Propagates a channel that became true: the station is on no other channel, and no station is on a channel that interferes.
     fn clear_channel(&mut self, v: u32) -> Result<Option<Reason>, NoMemory> {
         for w in self.grid.vars_of(self.grid.owner(v)) {
             if w != v && !self.is_ruled_out(v, w)? {
@@ -54,7 +55,7 @@ impl Engine {
         Ok(None)
     }
 
-    // Makes a variable false that may not be true beside another one. Whether it wasn't true.
+    // Makes a variable false that may not be true together with another one. Returns false if the variable is true already.
     fn is_ruled_out(&mut self, v: u32, w: u32) -> Result<bool, NoMemory> {
         match self.trail.value(Literal::of(w)) {
             Value::True => Ok(false),
@@ -66,7 +67,7 @@ impl Engine {
         }
     }
 
-    // Looks at each clause that watches a literal, which became false.
+    // Visits each clause that watches a literal which became false.
     fn visit_watches(
         &mut self,
         alloc: Global,
@@ -78,7 +79,7 @@ impl Engine {
         Ok(conflict)
     }
 
-    // Of these watches those are left which still watch the literal. After a false clause nothing more is looked at.
+    // Keeps the watches that still watch the literal. After a false clause no more clauses are visited.
     fn visit(
         &mut self,
         watches: &mut Vec<KeptWatch>,

@@ -1,10 +1,9 @@
-//! A query from its beginning to its end. Where several stations have no channel yet, as at the start of an auction, one after
-//! the other is tested beside those before it.
+//! A query from beginning to end. If several stations have no channel yet, as at the start of an auction, they are tested one after the
+//! other, each together with those before it.
 //!
-//! `search` takes turn after turn. One that learns a line is counted, and after so many of them the search is left open.
-//! Where the tested station fits, its fit is adopted, and it ends: with the test of the next one begun, where one waits, or
-//! with a fit. Where the station is refuted, the query is over, and the search ends with the line that says so; it ends,
-//! too, where it is lost. After any other turn comes the next.
+//! `search` takes turn after turn, and stays undecided after a given number of learnt lines. If the tested station fits, its fit is
+//! adopted, and the search ends with `Found::Next` if another station waits, otherwise with `Found::Fits`. If the station is refuted,
+//! the search ends with the line of the refutation. A contradiction ends the search too.
 
 ghost use Rattle.std.specs.Bool.{OnTrue};
 ghost use Rattle.pack_defs.specs.ChannelMap.{IsAscending};
@@ -19,20 +18,20 @@ use std::alloc::{AllocError as NoMemory, Global};
 /// How far a search came.
 #[derive(Clone, Copy, Debug, PartialEq, Eq)]
 pub(crate) enum Found {
-    /// It can go on.
+    /// The search can continue.
     Open,
     /// The tested station fits, and the test of the next one is begun.
     Next,
     /// Every station of the set has a channel.
     Fits,
-    /// The tested station can't be in the set, as the line of this number says.
+    /// The tested station can't be in the set, by the line of this number.
     Refuted { line: u32 },
-    /// What was known was of other stations than the query is about.
+    /// The search's knowledge was about other stations than the query is.
     Lost,
 }
 
 impl Engine {
-    /// Begins a query of this set, of which those stations are tested that have no channel in the last map.
+    /// Begins a query of this set. The stations without a channel in the last map are tested.
     pub(crate) fn begin_query(
         &mut self,
         set: &[u32],
@@ -55,7 +54,7 @@ impl Engine {
         Ok(())
     }
 
-    /// Begins the test of one of these stations beside the others, which come on air where they are not yet.
+    /// Begins the test of one of these stations together with the others, which come on air if they are not yet.
     pub(crate) fn begin_beside(
         &mut self,
         stations: &[u32],
@@ -78,7 +77,7 @@ impl Engine {
         }
     }
 
-    /// Searches until the query is decided, or so many lines are learnt.
+    /// Searches until the tested station is decided, or this many lines are learnt.
     pub(crate) fn search(&mut self, alloc: Global, conflicts: u32) -> Result<Found, NoMemory> {
         if conflicts == 0 {
             return Ok(Found::Open);
@@ -109,7 +108,7 @@ impl Engine {
         Ok(Found::Open)
     }
 
-    /// The channels of the set's stations that are others than in the last map; none where the set does not ascend.
+    /// Returns the channels of the set's stations that differ from the last map; none if the set does not ascend.
     pub(crate) fn fit(
         &self,
         alloc: Global,
@@ -131,7 +130,7 @@ impl Engine {
         Ok(Some(map))
     }
 
-    // A station of the set stands where it is, or waits for its test.
+    // Puts a station of the set on its channel, or queues the station for its test.
     fn take_in(&mut self, station: u32, channel: Option<u8>) -> Result<(), NoMemory> {
         let Some(place) = self.grid.place_of(station) else {
             return Ok(());
@@ -148,7 +147,7 @@ impl Engine {
         Ok(())
     }
 
-    // Begins the test of the next station that waits. Whether one did.
+    // Begins the test of the next waiting station, and returns whether one waited.
     fn test_next(&mut self) -> Result<bool, NoMemory> {
         let Some(place) = self.waiting.pop() else {
             return Ok(false);
@@ -170,7 +169,7 @@ impl Engine {
         Ok(())
     }
 
-    // The tested station fits. Whether another one waits, whose test then begins beside it.
+    // Adopts the fit of the tested station, and returns whether another station waits, whose test is then begun.
     fn settle(&mut self) -> Result<bool, NoMemory> {
         self.adopt();
         self.end()?;
@@ -194,7 +193,7 @@ impl Engine {
     }
 }
 
-// Whether each entry is of a later station than the one before.
+// Checks whether the stations of the entries ascend.
 fn ascends(entries: &[(u32, u8)]) -> bool
     ensures { OnTrue result (IsAscending entries.now) }
 {

@@ -1,6 +1,6 @@
-//! When the search begins anew.
+//! When the search restarts.
 
-/// When the search begins anew from its lines: after 1, 1, 2, 1, 1, 2, 4, .. units of conflicts (the sequence of Luby,
+/// The restart schedule: the search restarts, with its lines, after 1, 1, 2, 1, 1, 2, 4, .. units of conflicts (the sequence of Luby,
 /// Sinclair and Zuckerman 1993).
 #[derive(Drop)]
 pub struct Restarts {
@@ -10,7 +10,7 @@ pub struct Restarts {
 }
 
 impl Restarts {
-    /// No conflict yet. So many conflicts are a unit of the sequence.
+    /// Returns the schedule before any conflict. A unit of the sequence is this many conflicts.
     pub fn new(unit: u64) -> Restarts {
         Restarts {
             unit,
@@ -19,7 +19,7 @@ impl Restarts {
         }
     }
 
-    /// One conflict more. Whether the search begins anew after it.
+    /// Counts a conflict, and returns whether a restart is due after it.
     pub fn is_due(&mut self) -> bool {
         self.left = self.left.saturating_sub(1);
         if self.left > 0 {
@@ -31,8 +31,8 @@ impl Restarts {
     }
 }
 
-// The number of units at a place of the sequence, from 1: at place 2^k - 1 it is 2^(k-1), and what comes after such a
-// place repeats the sequence.
+// Returns the number of units at a place of the sequence, from 1. At place 2^k - 1 the number is 2^(k-1), and the places after that
+// repeat the sequence.
 fn luby(place: u64) -> u64 {
     let mut rest = place;
     for _ in 0..64 {
@@ -45,7 +45,7 @@ fn luby(place: u64) -> u64 {
     1
 }
 
-// The least number 2^k - 1 that is not below a place, with 2^(k-1).
+// Returns the least number 2^k - 1 that is not below a place, with 2^(k-1).
 fn stretch(place: u64) -> (u64, u64) {
     let mut size: u64 = 1;
     let mut units: u64 = 1;

@@ -1,11 +1,11 @@
-//! The searcher as its caller sees it: it is told a query, and goes on at it as far as it is let.
+//! The interface of the search: a caller begins a query, and lets the searcher continue for some conflicts at a time.
 
 use crate::engine::Engine;
 use crate::grid::Grid;
 use crate::policy::{PATIENT, USUAL};
 use crate::query::Found;
 use crate::shortening::Shortening;
-use crate::suggestion::{Disproof, Suggestion};
+use crate::suggestion::{Disproof, LogLength, Suggestion};
 use pack_defs::book::Book;
 use pack_defs::channel_map::ChannelMap;
 use std::alloc::{AllocError as NoMemory, Global};
@@ -13,45 +13,36 @@ use std::alloc::{AllocError as NoMemory, Global};
 /// How far the searcher came with a query.
 #[derive(Debug, Drop)]
 pub enum Progress {
-    /// It can go on.
+    /// The query can continue.
     Open,
-    /// It is at its end.
+    /// The query has ended with this suggestion.
     Ended(Suggestion),
-    /// Its effort is spent.
+    /// The effort is spent.
     Spent,
-    /// No query was begun, or what was known was of other stations than it is about. All is forgotten.
+    /// No query was begun, or the knowledge was about other stations than the query is. All of it is forgotten.
     Lost,
 }
 
-/// Which logs the searcher looks for.
-#[derive(Clone, Copy, Debug, PartialEq, Eq)]
-pub enum LogLength {
-    /// Short ones: where a log is long, it searches for a shorter one. So it is where logs are written, read and checked again.
-    Short,
-    /// Any that may be said: it searches for a shorter one only where a log has more lines than that.
-    Any,
-}
-
-/// A searcher for the queries of an auction, one after the other. It keeps what it learnt, as long as each query is about the
-/// stations on air, which only become more, and one that is tested; where a query isn't, what it suggests may be worth nothing.
+/// A searcher for the queries of an auction, one after the other. It keeps what it learnt, provided that each query is about the
+/// stations on air, whose number only grows, and tested stations. For any other query, suggestions may be worthless.
 #[derive(Drop)]
 pub struct Searcher {
     engine: Option<Engine>,
-    // The search for a shorter log that stands, and between two of them what the last one learnt.
+    // The current search for a shorter log, and between two of these searches the engine of the last one.
     shortening: Option<Shortening>,
     crowd: Option<Engine>,
     seed: u64,
     logs: LogLength,
-    // So many conflicts each policy may come to at each tested station, and are left to the one that searches; whether that is
-    // the last one.
+    // The effort of each policy for each tested station, in conflicts, and the conflicts left to the current policy; whether that is
+    // the last policy.
     effort: u32,
     left: u32,
     is_patient: bool,
 }
 
 impl Searcher {
-    /// A searcher that knows nothing. Its seed breaks the ties of the order in which variables are decided, so that searchers
-    /// of different seeds search differently; with seed 0 these are broken by the variables' order. Its logs are of this length.
+    /// Returns a searcher that knows nothing. The seed breaks ties in the order of decisions, so searchers with different seeds search
+    /// differently; seed 0 breaks ties by the variables' order.
     pub fn new(seed: u64, logs: LogLength) -> Searcher {
         Searcher {
             engine: None,
@@ -65,22 +56,22 @@ impl Searcher {
         }
     }
 
-    /// Forgets all.
+    /// Forgets everything.
     pub fn forget(&mut self) {
         self.engine = None;
         self.shortening = None;
         self.crowd = None;
     }
 
-    /// Begins a query: is there a map of exactly the stations of this ascending set that violates no pair of the book? Of the set
-    /// those stations are tested which have no channel in the last map. The search begins from another fit, where one is given:
-    /// what the tested station's last one changed. At each tested station it may come to so many conflicts, and to as many once
-    /// more by another policy; where it finds a log that is longer than that, or long where logs are to be short, it searches for a
-    /// shorter one.
+    /// Begins a query: is there a map of exactly the stations of this ascending set that violates no pair of the book?
+    ///
+    /// The stations of the set that have no channel in the last map are tested. `from`, if given, is the change of a known fit of the
+    /// tested station, from which the search begins. For each tested station the search has `effort` conflicts, and as many again by
+    /// another policy. If it finds a log of more than `effort` lines, or a long one if short logs are wanted, it looks for a shorter
+    /// one.
     ///
     /// # Errors
-    ///
-    /// Want of memory. No query is begun then, and the searcher can be used again.
+    /// Fails only if memory runs out. Then no query is begun, and the searcher can be used again.
     pub fn begin(
         &mut self,
         alloc: Global,
@@ -100,11 +91,10 @@ impl Searcher {
         Ok(())
     }
 
-    /// Goes on at the query that was begun, with the same set and last map, for so many conflicts at most.
+    /// Continues the query, with the same set and last map, for at most this many conflicts.
     ///
     /// # Errors
-    ///
-    /// Want of memory. The query is no longer begun then, and the searcher can be used again.
+    /// Fails only if memory runs out. Then no query is begun any more, and the searcher can be used again.
     pub fn go_on(
         &mut self,
         alloc: Global,
@@ -121,7 +111,7 @@ impl Searcher {
         }
     }
 
-    // Goes on with the search for a fit or a disproof, for so many conflicts at most.
+    // Continues the search for a fit or a disproof, for at most this many conflicts.
     fn search(
         &mut self,
         alloc: Global,
@@ -140,7 +130,7 @@ impl Searcher {
         }
     }
 
-    // The search goes on after so many conflicts, by the next policy where its effort is spent.
+    // Keeps the search after this many conflicts, and switches to the next policy if the effort is spent.
     fn keep_open(&mut self, mut engine: Engine, conflicts: u32) -> Result<Progress, NoMemory> {
         self.left = self.left.saturating_sub(conflicts);
         if self.left == 0 && !self.is_patient {
@@ -155,7 +145,7 @@ impl Searcher {
         Ok(Progress::Open)
     }
 
-    // The next tested station has the whole effort, by the first policy.
+    // Gives the next tested station the complete effort, by the first policy.
     fn begin_next(&mut self, engine: Engine) -> Progress {
         self.left = self.effort;
         self.is_patient = false;
@@ -163,7 +153,7 @@ impl Searcher {
         Progress::Open
     }
 
-    // The fit that was found is the suggestion.
+    // Suggests the fit that was found.
     fn say_fit(
         &mut self,
         alloc: Global,
@@ -178,7 +168,7 @@ impl Searcher {
         Ok(Progress::Ended(Suggestion::Fit(fit)))
     }
 
-    // The disproof that ends with this line is the suggestion, unless a shorter one is worth a search.
+    // Suggests the disproof that ends with this line, unless a search for a shorter one is worthwhile.
     fn say_unfit(
         &mut self,
         alloc: Global,
@@ -194,29 +184,28 @@ impl Searcher {
         }
     }
 
-    // The disproof that was gathered is the suggestion.
+    // Suggests the gathered disproof.
     fn say_gathered(&mut self, alloc: Global, engine: Engine) -> Result<Progress, NoMemory> {
         let disproof = Disproof::of_cone(alloc, &engine)?;
         self.engine = Some(engine);
         Ok(Progress::Ended(Suggestion::Unfit(disproof)))
     }
 
-    // Begins the search for a shorter disproof than the one that was gathered.
+    // Begins the search for a shorter disproof than the gathered one.
     fn begin_shortening(&mut self, alloc: Global, engine: Engine) -> Result<Progress, NoMemory> {
         let crowd = self.crowd.take();
         let shortening = Shortening::begin(alloc, &engine, crowd, self.effort)?;
         Ok(self.keep_shortening(engine, shortening))
     }
 
-    // The search for a shorter disproof goes on.
+    // Keeps the search for a shorter disproof.
     fn keep_shortening(&mut self, engine: Engine, shortening: Shortening) -> Progress {
         self.engine = Some(engine);
         self.shortening = Some(shortening);
         Progress::Open
     }
 
-    // Goes on with the search for a shorter disproof than the one that was gathered. Where memory runs out, what is known is
-    // forgotten as well.
+    // Continues the search for a shorter disproof than the gathered one. If memory runs out, all knowledge is forgotten too.
     fn shorten(
         &mut self,
         alloc: Global,
@@ -230,7 +219,7 @@ impl Searcher {
         Ok(self.keep_shortening(engine, shortening))
     }
 
-    // The search for a shorter disproof is at its end: the shortest one is the suggestion.
+    // Ends the search for a shorter disproof, and suggests the shortest one.
     fn say_shortest(
         &mut self,
         alloc: Global,
@@ -245,13 +234,13 @@ impl Searcher {
         }
     }
 
-    // A shorter disproof than the one that was gathered is the suggestion.
+    // Suggests a disproof that is shorter than the gathered one.
     fn say_shorter(&mut self, engine: Engine, disproof: Disproof) -> Progress {
         self.engine = Some(engine);
         Progress::Ended(Suggestion::Unfit(disproof))
     }
 
-    // A search for a shorter log that is not at its end is left; what it learnt is kept.
+    // Abandons an unfinished search for a shorter log, and keeps what it learnt.
     fn leave_off(&mut self) {
         if let Some(shortening) = self.shortening.take() {
             let (_, crowd) = shortening.into_ended();
@@ -259,7 +248,7 @@ impl Searcher {
         }
     }
 
-    // What was kept, if that may be of the book, or else what knows nothing of it.
+    // Returns the kept engine if it may be of the book; otherwise a new one.
     fn take_engine(&mut self, alloc: Global, book: &Book) -> Result<Engine, NoMemory> {
         if let Some(engine) = self.engine.take() {
             if engine.grid.may_be_of(book) {

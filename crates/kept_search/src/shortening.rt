@@ -1,6 +1,8 @@
-//! The search for a shorter log. What kept lines show leads through other queries; over the stations of a disproof alone there is
-//! often one of half as many lines. Those of the next one are mostly the same, and so are the lines that show them too many: so
-//! what is learnt here is kept as well, as long as it is about the same crowd.
+//! The search for a shorter log.
+//!
+//! What a kept engine learnt passes through other queries, so over the stations of a disproof alone a log with half as many lines often
+//! exists. The next disproof concerns mostly the same stations and needs mostly the same lines. So what is learnt here is kept too, as
+//! long as the disproofs are about the same crowd of stations.
 
 use crate::engine::Engine;
 use crate::grid::Grid;
@@ -9,30 +11,29 @@ use crate::policy::{
     LINES_OF_SHORT_LOG, SHORTENING,
 };
 use crate::query::Found;
-use crate::searcher::LogLength;
-use crate::suggestion::Disproof;
+use crate::suggestion::{Disproof, LogLength};
 use std::alloc::{AllocError as NoMemory, Global};
 
-/// A search for a disproof of a tested station that has fewer lines than the one that is known.
+/// A search for a disproof of a tested station with fewer lines than the known one.
 #[derive(Drop)]
 pub(crate) struct Shortening {
-    // The stations of the shortest one so far, how many lines it has, and itself, unless it is the one that was known.
+    // The stations of the shortest disproof so far, its number of lines, and the disproof itself, unless it is the known one.
     stations: Vec<u32>,
     lines: usize,
     found: Option<Disproof>,
     tested: u32,
-    // What knows nothing but a crowd of stations, of which these are some.
+    // An engine that knows only a crowd of stations, which includes these.
     engine: Engine,
-    // So many lines a worker may say.
+    // The number of lines that a worker may write.
     budget: usize,
-    // So many conflicts are left to the search, by the policy at this place.
+    // The number of conflicts left to the search by the policy of this index.
     left: usize,
     policy: usize,
 }
 
 impl Shortening {
-    /// Whether a disproof has so many lines that a shorter one is worth a search, where a worker may say so many lines, and logs are
-    /// to be of this length.
+    /// Checks whether a disproof of this many lines is worth a search for a shorter one. `budget` is the number of lines that a
+    /// worker may write.
     pub(crate) fn is_worth(lines: usize, budget: u32, logs: LogLength) -> bool {
         let most = budget as usize;
         match logs {
@@ -41,8 +42,8 @@ impl Shortening {
         }
     }
 
-    /// Begins the search, by the first policy, for a shorter disproof than the one that was gathered of all that an engine
-    /// learnt. What was learnt of a crowd is used where that is about most of its stations.
+    /// Begins the search, by the first policy, for a shorter disproof than the one that `known` gathered. The crowd's engine is used if
+    /// it knows most of the disproof's stations.
     pub(crate) fn begin(
         alloc: Global,
         known: &Engine,
@@ -67,7 +68,7 @@ impl Shortening {
         })
     }
 
-    /// Goes on for so many conflicts at most. Whether the search is at its end.
+    /// Continues for at most this many conflicts, and returns whether the search has ended.
     pub(crate) fn go_on(&mut self, alloc: Global, conflicts: u32) -> Result<bool, NoMemory> {
         match self.engine.search(alloc, conflicts)? {
             Found::Open => {
@@ -82,12 +83,12 @@ impl Shortening {
         self.is_over(alloc)
     }
 
-    /// The shortest disproof, if one was found that is shorter than the known one, and what was learnt of its crowd.
+    /// Returns the shortest disproof, if a shorter one than the known one was found, and the engine that knows its crowd.
     pub(crate) fn into_ended(self) -> (Option<Disproof>, Engine) {
         (self.found, self.engine)
     }
 
-    // A line refutes the tested station. That is the shortest disproof, if it needs fewer lines.
+    // Takes a refutation of the tested station as the shortest disproof, if it needs fewer lines.
     fn take(&mut self, alloc: Global, line: u32) -> Result<(), NoMemory> {
         self.engine.gather(alloc, line)?;
         let lines = self.engine.cone.lines.len();
@@ -99,7 +100,8 @@ impl Shortening {
         Ok(())
     }
 
-    // Whether no policy is left, or the shortest disproof is short enough. Else the search begins by the next policy, from nothing.
+    // Returns true if no policy is left or the shortest disproof is short enough. Otherwise begins a search from scratch by the
+    // next policy.
     fn is_over(&mut self, alloc: Global) -> Result<bool, NoMemory> {
         self.policy = self.policy.saturating_add(1);
         let short = LINES_OF_LONG_LOG.min(self.budget);
@@ -115,8 +117,8 @@ impl Shortening {
     }
 }
 
-// So many conflicts a search may come to for a log that is shorter than one of so many lines: all that one can have where the
-// worker may not say it.
+// Returns the number of conflicts for the search of a log shorter than one of this many lines. If a worker may not write the known log,
+// the search may have as many conflicts as a shorter log can have.
 fn conflicts_for(lines: usize, budget: usize) -> usize {
     if lines > budget {
         lines
@@ -125,7 +127,7 @@ fn conflicts_for(lines: usize, budget: usize) -> usize {
     }
 }
 
-// What was learnt of a crowd, if most of these stations are of it; else what knows nothing of the same book.
+// Returns the crowd's engine if it knows most of these stations; otherwise a new engine over the same book.
 fn engine_for(
     alloc: Global,
     grid: &Grid,

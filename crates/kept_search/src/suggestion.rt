@@ -1,20 +1,29 @@
-//! What the searcher suggests. Nothing of it is proved.
+//! What the searcher suggests. Nothing of a suggestion is proved.
 
 use crate::engine::Engine;
 use pack_defs::channel_map::ChannelMap;
 use rup_check::line::Log;
 use std::alloc::{AllocError as NoMemory, Global};
 
-/// An answer to a query, which is yet to be checked.
+/// Which logs the searcher looks for.
+#[derive(Clone, Copy, Debug, PartialEq, Eq)]
+pub enum LogLength {
+    /// Short logs: for a long log, the search looks for a shorter one. For logs that are written, read and checked again.
+    Short,
+    /// Any log within the budget: the search looks for a shorter one only if a log exceeds the budget.
+    Any,
+}
+
+/// An answer to a query, which is still to be checked.
 #[derive(Debug, Drop)]
 pub enum Suggestion {
-    /// The channels that make the last map one of the query's set.
+    /// The channels that turn the last map into a map of the query's set.
     Fit(ChannelMap),
     /// Some stations of the set do not fit.
     Unfit(Disproof),
 }
 
-/// Stations that do not fit, ascending, with a log over their packing formula, whose last line is empty.
+/// Stations that do not fit, ascending, with a log over their packing formula whose last line is empty.
 #[derive(Debug, Drop)]
 pub struct Disproof {
     pub stations: Vec<u32>,
@@ -22,7 +31,7 @@ pub struct Disproof {
 }
 
 impl Disproof {
-    /// What was gathered last of all that an engine learnt.
+    /// Returns the disproof that the engine gathered last.
     pub(crate) fn of_cone(alloc: Global, engine: &Engine) -> Result<Disproof, NoMemory> {
         let stations = engine.named(alloc)?;
         let log = engine.log(alloc)?;

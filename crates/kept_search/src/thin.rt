@@ -1,4 +1,4 @@
-//! Of the lines that are little used a part is dropped now and then, and the rest moved together.
+//! Thinning: now and then some of the little used lines are dropped, and the rest are compacted.
 
 use crate::cells::{filled, write};
 use crate::clauses::{ClauseHead, KeptClauses};
@@ -15,8 +15,8 @@ use std::cmp::OrderedFloat;
 use std::mem::replace;
 
 impl Engine {
-    /// At level 0: where so many lines came since the last time, drops a part (`LINES_TO_ONE_DROPPED`) of those of more than
-    /// a few levels, the least used first.
+    /// At level 0: if enough lines came since the last thinning, drops some of the lines of more than a few levels. The least used go
+    /// first, one in `LINES_TO_ONE_DROPPED`.
     pub(crate) fn thin_out(&mut self, alloc: Global) -> Result<(), NoMemory> {
         if self.clauses.lines() <= self.room {
             return Ok(());
@@ -34,7 +34,7 @@ impl Engine {
         self.let_lines_go(alloc)
     }
 
-    // The use below which the part of the lines is that goes of those that may be dropped.
+    // Returns the use below which lines are dropped, among those that may be dropped.
     fn bounding_use(&self, alloc: Global) -> Result<f64, NoMemory> {
         let mut uses = Vec::new(alloc);
         for head in self.clauses.heads() {
@@ -51,8 +51,7 @@ impl Engine {
         }
     }
 
-    // Stores a clause again, unless it is true for good. Of its literals those are left out which say that a station on air is
-    // not in the set.
+    // Stores a clause again, unless it is true for good. Leaves out the false literals of selectors, whose stations are on air.
     fn move_clause(&mut self, old: &KeptClauses, head: ClauseHead) -> Result<(), NoMemory> {
         self.line.clear();
         for code in old.codes(head.at) {
@@ -74,7 +73,7 @@ impl Engine {
         Ok(())
     }
 
-    // Brings two literals of the line that are not false to its front, if it has them. How many it found.
+    // Swaps two literals of the line that are not false to its front, if the line has two. Returns how many it found.
     pub(crate) fn open_first(&mut self) -> usize {
         let mut found: usize = 0;
         for place in 0..self.line.len() {
@@ -86,7 +85,7 @@ impl Engine {
         found
     }
 
-    // Where many lines are held, lets go of those that no clause and no fact needs.
+    // If many lines are stored, deletes those that no clause and no fact needs.
     fn let_lines_go(&mut self, alloc: Global) -> Result<(), NoMemory> {
         if !self.lines.is_full(LINES_TO_SPARE_BEFORE_SWEEP) {
             return Ok(());
@@ -101,7 +100,7 @@ impl Engine {
     }
 }
 
-// Whether a clause is a line of more than two literals and of more than a few levels.
+// Checks whether a clause is a line of more than two literals and more than a few levels.
 fn may_drop(clauses: &KeptClauses, head: ClauseHead) -> bool {
     matches!(head.name, Hint::Line(_))
         && head.glue > MOST_LEVELS_OF_KEPT_LINE

@@ -1,24 +1,24 @@
-//! Which of two variables comes first that are equally active.
+//! Tie-breaking between variables of equal activity.
 
 use crate::policy::CHANCE_BELOW;
 use rand_core::utils::NextWord;
 use rand_pcg::Lcg64Xsh32;
 
-// Chance draws one of so many words.
+// The number of words from which chance draws.
 const WORD_COUNT: f64 = 4_294_967_296.0;
 
-/// What breaks the ties of the order in which variables are decided. The same seed and stream break them in the same way.
-/// Nothing that the solver says rests on it.
+/// How ties in the order of decisions are broken. The same seed and stream break them in the same way. No answer depends on
+/// tie-breaking for its correctness.
 #[derive(Drop)]
 pub enum Ties {
-    /// The places of the variables in the heap, which begins in their order.
+    /// By the places of the variables in the heap, which begins in their order.
     ByPlace,
-    /// A small activity that each variable begins with.
+    /// By a small random activity with which each variable begins.
     ByChance(Lcg64Xsh32),
 }
 
 impl Ties {
-    /// By place for seed 0, and for any other by what chance gives of the seed in this stream.
+    /// Breaks ties by place for seed 0, and for any other seed by the random numbers of the seed in this stream.
     pub fn new(seed: u64, stream: u64) -> Ties {
         if seed == 0 {
             return Ties::ByPlace;
@@ -26,7 +26,7 @@ impl Ties {
         Ties::ByChance(Lcg64Xsh32::new(seed, stream))
     }
 
-    /// Draws the activity that the next variable begins with.
+    /// Draws the initial activity of the next variable.
     pub fn draw(&mut self) -> f64 {
         match self {
             Ties::ByPlace => 0.0,

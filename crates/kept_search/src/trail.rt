@@ -1,4 +1,4 @@
-//! What is true and false now, since when, and why.
+//! The trail: which literals are true, since when, and why.
 
 use crate::cells::{filled, read, short, write};
 use crate::hint::Reason;
@@ -13,25 +13,24 @@ pub(crate) enum Value {
     False,
 }
 
-/// The literals that are true, in the order in which they became so. Each decision begins a level; at level 0 is what holds
-/// without any.
+/// The true literals, in the order in which they became true. Each decision begins a level; level 0 has what holds without decisions.
 #[derive(Drop)]
 pub(crate) struct KeptTrail {
-    // Of each literal.
+    // For each literal.
     values: Vec<Value>,
-    // Of each variable.
+    // For each variable.
     levels: Vec<u32>,
     places: Vec<u32>,
     reasons: Vec<Reason>,
     literals: Vec<Literal>,
     // Where each level from 1 on begins.
     limits: Vec<u32>,
-    // So many literals have been propagated.
+    // The number of literals that have been propagated.
     head: u32,
 }
 
 impl KeptTrail {
-    /// Nothing is known of so many variables.
+    /// Returns the empty trail over this many variables.
     pub(crate) fn new(alloc: Global, vars: u32) -> Result<KeptTrail, NoMemory> {
         Ok(KeptTrail {
             values: filled(alloc, vars.saturating_mul(2), Value::Open)?,
@@ -44,47 +43,47 @@ impl KeptTrail {
         })
     }
 
-    /// The number of variables.
+    /// Returns the number of variables.
     pub(crate) fn vars(&self) -> u32 {
         short(self.levels.len())
     }
 
-    /// The value of a literal.
+    /// Returns the value of a literal.
     pub(crate) fn value(&self, literal: Literal) -> Value {
         read(&self.values, literal.code, Value::False)
     }
 
-    /// Whether a variable has no value.
+    /// Checks whether a variable has no value.
     pub(crate) fn is_open(&self, var: u32) -> bool {
         self.value(Literal::of(var)) == Value::Open
     }
 
-    /// The level of the latest decision.
+    /// Returns the level of the latest decision.
     pub(crate) fn level(&self) -> u32 {
         short(self.limits.len())
     }
 
-    /// The level at which a variable got its value.
+    /// Returns the level at which a variable got its value.
     pub(crate) fn level_of(&self, var: u32) -> u32 {
         read(&self.levels, var, 0)
     }
 
-    /// The place of a variable that has a value.
+    /// Returns the trail position of a variable that has a value.
     pub(crate) fn place_of(&self, var: u32) -> u32 {
         read(&self.places, var, 0)
     }
 
-    /// Why a variable has its value.
+    /// Returns why a variable has its value.
     pub(crate) fn reason_of(&self, var: u32) -> Reason {
         read(&self.reasons, var, Reason::Chosen)
     }
 
-    /// How many literals are true.
+    /// Returns the number of true literals.
     pub(crate) fn len(&self) -> u32 {
         short(self.literals.len())
     }
 
-    /// The literal at a place.
+    /// Returns the literal at a trail position.
     pub(crate) fn at(&self, place: u32) -> Literal {
         read(&self.literals, place, Literal::of(0))
     }
@@ -109,7 +108,7 @@ impl KeptTrail {
         Ok(())
     }
 
-    /// The next literal to propagate, if one is left.
+    /// Returns the next literal to propagate, if one is left.
     pub(crate) fn next(&mut self) -> Option<Literal> {
         if self.head >= self.len() {
             return None;
@@ -119,7 +118,7 @@ impl KeptTrail {
         Some(literal)
     }
 
-    /// Takes back the latest literal above a level, if there is one.
+    /// Undoes the latest literal above a level and returns it, if there is one.
     pub(crate) fn take_back(&mut self, level: u32) -> Option<Literal> {
         if level >= self.level() || self.len() <= read(&self.limits, level, u32::MAX) {
             return None;
@@ -130,7 +129,7 @@ impl KeptTrail {
         Some(literal)
     }
 
-    /// Ends the levels above one, once their literals are taken back.
+    /// Ends the levels above a level, once their literals are undone.
     pub(crate) fn end_levels(&mut self, level: u32) {
         self.limits.truncate(level as usize);
         self.head = self.head.min(self.len());

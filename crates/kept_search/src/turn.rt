@@ -1,4 +1,4 @@
-//! One turn of the search: propagate, and then learn from a conflict, begin anew, or decide.
+//! One turn of the search: propagate, and then learn from a conflict, restart, or decide.
 
 use crate::cells::read;
 use crate::engine::Engine;
@@ -8,22 +8,22 @@ use crate::play::NOBODY;
 use crate::trail::Value;
 use std::alloc::{AllocError as NoMemory, Global};
 
-/// What a turn came to.
+/// The result of a turn.
 #[derive(Clone, Copy, Debug, PartialEq, Eq)]
 pub(crate) enum SearchTurn {
     Going,
-    /// A line more.
+    /// A line was learnt.
     Learnt,
-    /// No station in play is without a channel, and nobody stands in another's way.
+    /// Every station in play has a channel, and no two interfere.
     Fits,
-    /// The tested station can't be in the set, as the line of this number says.
+    /// The tested station can't be in the set, by the line of this number.
     Refuted { line: u32 },
-    /// What the searcher knows is at odds with itself: it was asked about other stations than it had been told.
+    /// The search has contradictory knowledge, because the query is about other stations than those before it.
     Lost,
 }
 
 impl Engine {
-    /// Goes on until a line is learnt or the search ends, by one step.
+    /// Takes one step: propagates, then learns, restarts or decides.
     pub(crate) fn turn(&mut self, alloc: Global) -> Result<SearchTurn, NoMemory> {
         if self.is_lost {
             return Ok(SearchTurn::Lost);
@@ -50,7 +50,7 @@ impl Engine {
         }
     }
 
-    // A conflict becomes a line, and the line's first literal becomes true.
+    // Turns a conflict into a line, and makes the line's first literal true.
     fn learn_from(&mut self, conflict: Reason) -> Result<SearchTurn, NoMemory> {
         if self.trail.level() == 0 {
             return Ok(SearchTurn::Lost);
@@ -76,7 +76,7 @@ impl Engine {
         Ok(SearchTurn::Learnt)
     }
 
-    // The first decision is that the tested station is in the set. Where none is tested, those on air fit.
+    // Decides first that the tested station is in the set. Without a tested station, the stations on air fit.
     fn suppose(&mut self) -> Result<SearchTurn, NoMemory> {
         if self.tested == NOBODY {
             return Ok(SearchTurn::Fits);
@@ -99,7 +99,7 @@ impl Engine {
         }
     }
 
-    // The most active open variable of a station in play, with the value that it had last.
+    // Picks the most active open variable of a station in play, with its last value or, by policy, true.
     fn pick(&mut self) -> Option<Literal> {
         for _ in 0..self.play.order.len() {
             let var = self.play.order.take()?;

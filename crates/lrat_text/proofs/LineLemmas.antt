@@ -1,17 +1,18 @@
--- Lines and fields that are written, read again.
+-- Lines and fields that are written are read back.
 use Rattle.std.proofs.Common.{◌≡◌, ◌<◌, ◌∙◌, ◌∷◌, ◌++◌, [], ℕ, List, Bool, true, false, refl, ap, arith, filter, not, ne_eqb, append_assoc}
 use Rattle.std.specs.List.{AllByRecursion}
 use Rattle.pack_defs.specs.Lists.{is_empty}
 use Rattle.lrat_text.specs.Lines.{ended_lines, is_whole, pieces, is_space, is_space_or_tab, fields_of, words_of, without_return, with_spaces, line_of}
 
--- a word has no byte up to the space; a line has none up to the carriage return
+-- Whether each byte is above the space, so that the bytes are a word.
 abbrev pub IsWord : List ℕ → Type 0
 IsWord = AllByRecursion (λ c. 32 < c)
 
+-- Whether each byte is above the carriage return, so that the bytes are a line.
 abbrev pub IsPlainLine : List ℕ → Type 0
 IsPlainLine = AllByRecursion (λ c. 13 < c)
 
--- a field is a word that is not empty
+-- Whether this is a word that is not empty.
 abbrev pub IsField : List ℕ → Type 0
 IsField word = IsWord word × (is_empty word ≡ false)
 
@@ -35,7 +36,7 @@ joined-plain (f ∷ g ∷ fields) h =
 
 -- ---- lines
 
--- the first line of a text
+-- The first line of a text.
 pub whole-line : (line rest : List ℕ) → IsPlainLine line → ended_lines (line ++ 10 ∷ rest) ≡ line ∷ ended_lines rest
 unfolding ended_lines
 whole-line [] rest h = refl
@@ -50,7 +51,7 @@ is-whole-line (c ∷ []) [] = refl
 is-whole-line (c ∷ []) (d ∷ rest) = refl
 is-whole-line (c ∷ d ∷ line) rest = is-whole-line (d ∷ line) rest
 
--- a line of fields before a text
+-- A line of fields before a text.
 pub fields-line : (fields : List (List ℕ)) (rest : List ℕ) → AreFields fields
     → ended_lines (line_of fields ++ rest) ≡ with_spaces fields ∷ ended_lines rest
 fields-line fields rest h =
@@ -68,7 +69,7 @@ no-return (c ∷ d ∷ line) h = ap (λ (r : List ℕ). c ∷ r) (no-return (d �
 
 -- ---- fields
 
--- a test of bytes that no byte of a word passes, and that a space passes
+-- Whether a space passes this test, and no byte of a word does.
 pub record Parts (p : ℕ → Bool) : Type 0 where
   pub none : (c : ℕ) → 32 < c → p c ≡ false
   pub space : p 32 ≡ true
@@ -92,7 +93,7 @@ unfolding pieces
 first-piece p parts [] rest h = rw parts.space refl
 first-piece p parts (c ∷ word) rest h = rw (parts.none c h.0, first-piece p parts word rest h.1) refl
 
--- the pieces of joined fields are the fields
+-- The pieces of joined fields are the fields.
 pub joined-pieces : (p : ℕ → Bool) → Parts p → (field : List ℕ) (fields : List (List ℕ)) → AreFields (field ∷ fields) → pieces p (with_spaces (field ∷ fields)) ≡ field ∷ fields
 unfolding with_spaces
 joined-pieces p parts field [] h = last-piece p parts field h.0.0

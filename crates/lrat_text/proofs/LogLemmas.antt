@@ -1,4 +1,4 @@
--- A log's line that is written, read again.
+-- The line of a log that is written is read back.
 use Rattle.std.proofs.Common.{◌≡◌, ◌<◌, ◌≤◌, ◌+◌, ◌^◌, ◌∷◌, ◌++◌, [], ℕ, zero, suc, List, Bool, true, false, Some, None, Ok, refl, ap, arith, map, ne_eqb, eq-eqb, decimal, inl, inr}
 use Rattle.std.specs.List.{AllByRecursion, list_all}
 use Rattle.std.specs.Prelude.{nat_le, nat_lt}
@@ -42,7 +42,7 @@ unfolding log_lits_at
 lits-again n [] rest h = rw zero-again refl
 lits-again n (l ∷ lits) rest h = rw (lit-again l h.0, lits-again n lits rest h.1) refl
 
--- the numbers from one on, this many
+-- This many numbers, from this one on.
 abbrev pub run : ℕ → ℕ → List ℕ
 run from zero = []
 run from (suc k) = from ∷ run (from + 1) k
@@ -83,7 +83,7 @@ below-next from (suc k) number h = rw (lt-ltb from number (omega arith), below-n
 pub is-next : (clauses k : ℕ) → is_next clauses (run (clauses + 1) k) (clauses + 1 + k) ≡ true
 is-next clauses k = rw (lt-ltb clauses (clauses + 1 + k) (omega arith), below-next (clauses + 1) k (clauses + 1 + k) (omega arith)) refl
 
--- words that begin with a digit or a minus sign are none of the letters
+-- A word that begins with a digit or a minus sign is none of the letters.
 pub not-letter : (letter : ℕ) (word : List ℕ) → 57 < letter → all_ascii_digits word ≡ true → is_empty word ≡ false → bytes_eq word (letter ∷ []) ≡ false
 not-letter letter [] big h e = absurd cc
 not-letter letter (c ∷ word) big h e =
@@ -105,7 +105,7 @@ no-deletion : (lits : List Lit) (rest : List (List ℕ)) → AllByRecursion IsLi
 no-deletion [] rest h = refl
 no-deletion (l ∷ lits) rest h = rw (lit-is-no-d l h.0) refl
 
--- one line more
+-- The log with another line.
 pub line-again : (n clauses k : ℕ) (lines : List Line) (line : Line) → clauses + 1 + k ≤ greatest
     → AllByRecursion IsLitSpelled line.lits → AllByRecursion (IsBefore (clauses + 1 + k)) line.hints
     → after_words n clauses (record { numbers = run (clauses + 1) k; lines = lines }) (log_fields (clauses + 1 + k) line)

@@ -1,5 +1,5 @@
--- The hints of a line that follows name clauses, and its literals are of the formula's variables; so a log that
--- follows can be written.
+-- The hints of a line that follows name what precedes it, and its literals are of the formula's variables. So a log
+-- whose lines follow can be written.
 use Rattle.std.proofs.Common.{◌≡◌, ◌≤◌, ◌+◌, ◌-◌, ◌∷◌, ◌++◌, [], ℕ, List, Bool, true, false, Option, Some, None, Result, Ok, Err, refl, subst, arith, length, map, if◌then◌else◌, ◌||◌, ne_eqb, inl, inr}
 use Rattle.std.specs.Prelude.{nat_lt, ◌==◌}
 use Rattle.std.specs.List.{AllByRecursion, list_any}

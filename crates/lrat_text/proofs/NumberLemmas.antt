@@ -1,4 +1,4 @@
--- Numbers that are written, read again.
+-- Numbers that are written are read back.
 use Rattle.std.proofs.Common.{◌≡◌, ◌<◌, ◌≤◌, ◌^◌, ◌∷◌, [], ℕ, List, Bool, true, false, Some, refl, arith, ne_eqb, decimal}
 use Rattle.std.specs.Char.{is_ascii_digit}
 use Rattle.std.specs.Str.{all_ascii_digits}
@@ -37,7 +37,7 @@ pub natural-again : (most n : ℕ) → n ≤ most → n < 2 ^ 64 → natural mos
 unfolding natural
 natural-again most n le h = rw (decimal-not-empty n h, all-digits n h, value-again n h, le-leb n most le) refl
 
--- digits are read without a sign
+-- Digits are read without a sign.
 pub digits-signed : (ds : List ℕ) → all_ascii_digits ds ≡ true → is_empty ds ≡ false → field_of ds ≡ signed_of true (natural greatest ds)
 unfolding field_of
 digits-signed [] h e = absurd cc

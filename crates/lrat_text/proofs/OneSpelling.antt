@@ -1,4 +1,4 @@
--- A plain text is the text of the log that it says.
+-- A plain text is the text of the log that it spells.
 use Rattle.std.proofs.Common.{◌≡◌, ◌≤◌, ◌+◌, ◌∙◌, ◌∷◌, ◌++◌, [], ℕ, zero, suc, List, Bool, true, false, Option, Some, None, Result, Ok, Err, refl, sym, ap, subst, arith, length, map, get_or, ne_eqb, eq-eqb, decimal, inl, inr, if◌then◌else◌, not, ◌&&◌, ◌==◌, append-nil, append_assoc}
 use Rattle.std.specs.Prelude.{codes, nat_le}
 use Rattle.std.specs.Fmt.{digits}
@@ -34,7 +34,7 @@ onto-ended : (c d : ℕ) (rest : List ℕ) (lines : List (List ℕ)) → ended l
 onto-ended c d rest [] e = absurd cc
 onto-ended c d rest (line ∷ lines) e = ap (λ (r : List ℕ). c ∷ r) e
 
--- a text of whole lines is these, with their ends
+-- A text of complete lines is these lines with their ends.
 pub whole-text : (text : List ℕ) → is_whole text ≡ true → ended (ended_lines text) ≡ text
 unfolding is_whole ended_lines
 whole-text [] h = refl
@@ -46,7 +46,7 @@ whole-text (c ∷ d ∷ rest) h = elim (cases_eq c 10) [
 
 -- ---- words
 
--- what a number's word is like
+-- What is known of a number's word.
 pub record IsNatural (most : ℕ) (word : List ℕ) (n : ℕ) : Type 0 where
   pub some : is_empty word ≡ false
   pub digits : all_ascii_digits word ≡ true
@@ -76,7 +76,7 @@ lone (c ∷ d ∷ rest) h e s = absurd (differ (not-true (c == 48) h) (eq-eqb c 
     differ : (c == 48) ≡ false → (c == 48) ≡ true → ⊥
     differ p q = cc
 
--- a number's word in its shortest spelling is what is written of it
+-- A number's word without leading zeros is what is written of the number.
 pub word-of-natural : (word : List ℕ) (n : ℕ) → natural greatest word ≡ Some n → has_no_nought word ≡ true → word ≡ decimal n
 word-of-natural word n e h =
     let is = natural-is greatest word n e in
@@ -85,7 +85,7 @@ word-of-natural word n e h =
 
 -- ---- fields
 
--- a word is what is written of what it says
+-- Whether a word is what is written of its meaning.
 abbrev pub IsWrittenAs : List ℕ → Option Field → Type 0
 IsWrittenAs word None = Unit {0}
 IsWrittenAs word (Some End) = word ≡ zero_field
@@ -123,7 +123,7 @@ written (c ∷ rest) h = elim (cases_eq c 45) [
 
 -- ---- literals and hints
 
--- what was read is what is written of it, and so is what stands behind it
+-- Whether the words are what is written of the literals, and of the rest after them.
 pub record AreLits (words : List (List ℕ)) (lits : List Lit) (rest : List (List ℕ)) : Type 0 where
   pub are : words ≡ map lit_text lits ++ zero_field ∷ rest
   pub shortest : list_all is_shortest rest ≡ true
@@ -172,7 +172,7 @@ lits-said n (word ∷ words) lits rest e h = go (field_of word) (written word pa
         }
     go (Some (Number l)) w rec e = more l w rec (log_lits_at n words) refl e
 
--- where the lines are numbered on from the clauses, a hint's place is its number
+-- If the lines are numbered after the clauses, a hint's place is its number.
 place-said : (next k h p : ℕ) → place_in next (run next k) h ≡ Some p → p ≡ h
 place-said next zero h p e = absurd (none-some p e)
 place-said next (suc k) h p e = elim (cases_eq next h) [
@@ -239,7 +239,7 @@ hints-said n clauses k (word ∷ words) hints e h = go (field_of word) (written 
 
 -- ---- a line
 
--- one line more was read, of which these words are what is written
+-- Whether one more line was read, and these words are what is written of it.
 pub record IsLineSaid (clauses k : ℕ) (before : List Line) (words : List (List ℕ)) (next : LogRead) : Type 0 where
   pub line : Line
   pub next_is : next ≡ record { numbers = run (clauses + 1) (suc k); lines = before ++ line ∷ [] }
@@ -297,7 +297,7 @@ line-said n clauses k before (word ∷ words) next e h numbered = lits (log_lits
 
 -- ---- lines
 
--- these lines were read, of which these bytes are the text
+-- Whether these lines were read, and these bytes are their text.
 pub record AreLinesSaid (number : ℕ) (before : List Line) (lines : List (List ℕ)) (state : LogRead) : Type 0 where
   pub more : List Line
   pub lines_are : state.lines ≡ before ++ more
@@ -334,7 +334,7 @@ lines-said n clauses k before (line ∷ lines) state e plain = go (after_words n
     go (Err why) q rec e = absurd (err-ok _ _ e)
     go (Ok next) q rec e = more next (line-said n clauses k before (words_of (without_return line)) next q plain.0.shortest plain.0.numbered) rec e
 
--- a plain text is that of the log that was read
+-- A plain text is the text of the log that was read.
 pub plain-said : (clauses : ℕ) (text : List ℕ) (log : Log) → ArePlain (clauses + 1) (ended_lines text) → log_of text clauses ≡ Ok log → text ≡ log_text (clauses + 1) log.lines
 unfolding log_of
 plain-said clauses text log plain e = whole (is_whole text) refl e

@@ -1,4 +1,4 @@
--- What was read before, and what is still read.
+-- What was read before a loop's turn, joined with what is still read; for the loops of `read`.
 use Rattle.std.proofs.Common.{◌≡◌, ◌<◌, ◌≤◌, ◌-◌, ◌&&◌, Bool, subst, inl, inr, ◌+◌, ◌==◌, ◌∙◌, ℕ, zero, suc, true, false, List, [], ◌∷◌, ◌++◌, Some, None, Result, Ok, Err, refl, sym, ap, arith, length, get_or, append_assoc, append-nil, eq-eqb, ne_eqb}
 use Rattle.std.proofs.lemmas.Bool.{and_parts, and_right, or_parts, ltb-true, lt-ltb, le-ltb, cases_lt}
 use Rattle.std.proofs.lemmas.Option.{same_Some}
@@ -22,7 +22,7 @@ with_front front read = read >>= λ x. Ok (front ++ x.0, x.1)
 abbrev pub with_hints : List ℕ → Result (List ℕ) LratErr → Result (List ℕ) LratErr
 with_hints front read = read >>= λ x. Ok (front ++ x)
 
--- what stops a step stops what stands on it
+-- An error of a step is the error of what follows it.
 pub fails-on : {A B : Type 0} (f : A → Result B LratErr) (e : LratErr) (read : Result A LratErr) (whole : Result B LratErr) → whole ≡ (read >>= f) → LogFails e read → LogFails e whole
 fails-on f Truncated read whole w h = rw (w, h) refl
 fails-on f (BadLine n) read whole w h = rw (w, h) refl
@@ -64,7 +64,7 @@ placed next (m ∷ ms) (suc i) h up lt e =
     let z : next + suc i ≡ next + 1 + i = omega arith in
     rw (ne_eqb m h (λ q. absurd (omega (arith, below, q, e))), z) (placed (next + 1) ms i h (ascending-rest m ms up) (omega arith) e)
 
--- a number so far is above the clauses by its place and one, at least
+-- The number at a place is above the clauses by at least the place and one.
 pub room : (m : ℕ) (ms : List ℕ) (i h : ℕ) → is_ascending (m ∷ ms) ≡ true → i < length ms → get_or ms i 0 ≡ h → m + 1 + i ≤ h
 room m [] i h up lt e = absurd (omega arith)
 room m (k ∷ ms) zero h up lt e = let low = ltb-true m k (and_parts _ _ up).0 in omega (arith, low, e)
@@ -74,7 +74,7 @@ room m (k ∷ ms) (suc i) h up lt e =
     let more = room k ms i h parts.1 (omega arith) e in
     omega (arith, low, more)
 
--- they ascend with the next one
+-- The numbers ascend with the next one.
 pub next-rises : (clauses : ℕ) (ms : List ℕ) (number : ℕ) → is_ascending (clauses ∷ ms) ≡ true → is_next clauses ms number ≡ true → is_ascending (clauses ∷ ms ++ number ∷ []) ≡ true
 next-rises clauses [] number up e = let parts = and_parts (nat_lt clauses number) true e in rw parts.0 refl
 next-rises clauses (m ∷ ms) number up e =
@@ -183,7 +183,7 @@ below-last m (k ∷ ms) x number up e =
     let parts = and_parts (nat_lt m k) (is_ascending (k ∷ ms)) up in
     ap (λ (b : Bool). nat_lt m number && b) (below-last k ms x number parts.1 e) ∙ absorbed m x number (last-above m (k ∷ ms) x up e)
 
--- a number is the next one by the last of those so far
+-- A number may be next exactly if it is above the last so far.
 pub next-by-last : (clauses : ℕ) (ms : List ℕ) (x number : ℕ) → clauses < number → is_ascending ms ≡ true → slice_get ms (length ms - 1) ≡ Some x → nat_lt x number ≡ is_next clauses ms number
 next-by-last clauses [] x number lt up e = absurd cc
 next-by-last clauses (m ∷ ms) x number lt up e =
@@ -198,17 +198,17 @@ not-next clauses ms number le = rw (le-ltb clauses number le) refl
 
 -- ---- lines
 
--- a text that ends within a line
+-- A text that ends within a line.
 pub log-cut : (text : List ℕ) (clauses : ℕ) → is_whole text ≡ false → log_of text clauses ≡ Err Truncated
 unfolding log_of
 log-cut text clauses h = rw h refl
 
--- a text of whole lines
+-- A text of complete lines.
 pub log-whole : (text : List ℕ) (clauses : ℕ) → is_whole text ≡ true → log_of text clauses ≡ (after_log_lines 1 clauses nothing_read (ended_lines text) >>= log_read)
 unfolding log_of
 log-whole text clauses h = rw h refl
 
--- a line, and those behind it
+-- A line, and the lines after it.
 pub lines-step : (n clauses : ℕ) (state : LogRead) (line : List ℕ) (lines more : List (List ℕ)) → lines ≡ line ∷ more
     → after_log_lines n clauses state lines ≡ (after_words n clauses state (words_of (without_return line)) >>= λ next. after_log_lines (n + 1) clauses next more)
 unfolding after_log_lines
@@ -218,7 +218,7 @@ pub lines-none : (n clauses : ℕ) (state : LogRead) (lines : List (List ℕ)) �
 unfolding after_log_lines
 lines-none n clauses state lines e = rw e refl
 
--- the whole, from a state that leads there: at its end, and where its next line stops it
+-- The complete reading, from a state on the way: at its end, and at an error of its next line.
 pub log-end : (text : List ℕ) (clauses n : ℕ) (state : LogRead) (lines : List (List ℕ)) → is_whole text ≡ true → lines ≡ []
     → after_log_lines n clauses state lines ≡ after_log_lines 1 clauses nothing_read (ended_lines text) → log_of text clauses ≡ log_read state
 log-end text clauses n state lines w e h = log-whole text clauses w ∙ ap (λ r. r >>= log_read) (sym h ∙ lines-none n clauses state lines e)

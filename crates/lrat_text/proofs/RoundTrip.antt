@@ -1,4 +1,4 @@
--- A log that is written is read again as itself; a log that follows can be written.
+-- A log that is written is read back as itself; a log whose lines follow can be written.
 use Rattle.std.proofs.Common.{◌≡◌, ◌+◌, ◌∙◌, ◌∷◌, ◌++◌, [], ℕ, suc, List, true, Ok, refl, sym, ap, subst, arith}
 use Rattle.std.proofs.lemmas.List.{append-nil, append_assoc}
 use Rattle.rup_check.specs.declared.line.Line.{Line}
@@ -31,7 +31,7 @@ lines-again n clauses k before (line ∷ lines) h =
     (subst (λ m. (after_log_lines (n + 1) clauses (record { numbers = run (clauses + 1) (suc k); lines = before ++ line ∷ [] }) (ended_lines (log_text m lines)) >>= log_read) ≡ Ok (record { lines = before ++ line ∷ lines })) (sym next)
     (lines-again (n + 1) clauses (suc k) (before ++ line ∷ []) lines (subst (λ m. AreSpelled m lines) next h.1) ∙ ap (λ (xs : List Line). Ok (record { lines = xs })) (append_assoc before (line ∷ []) lines)))
 
--- what was written is read again
+-- A log that is written is read back.
 pub log-again : (clauses : ℕ) (lines : List Line) → AreSpelled (clauses + 1) lines → log_of (log_text (clauses + 1) lines) clauses ≡ Ok (record { lines = lines })
 unfolding log_of
 log-again clauses lines h =

@@ -1,11 +1,11 @@
--- The first line, field and word, by their places.
+-- The first line, field and word, found by their places.
 use Rattle.std.proofs.Common.{◌≡◌, ◌<◌, ◌+◌, ◌-◌, ◌∙◌, ◌∷◌, [], ℕ, List, Bool, true, false, zero, suc, Some, None, refl, sym, ap, subst, arith, length, take, drop, get_or, filter, not, eq-eqb, ne_eqb, ◌==◌, if◌then◌else◌}
 use Rattle.std.specs.List.{slice_get}
 use Rattle.std.proofs.lemmas.List.{drop_more}
 use Rattle.pack_defs.specs.Lists.{is_empty}
 use Rattle.lrat_text.specs.Lines.{ended_lines, is_whole, pieces, is_space_or_tab, is_space, fields_of, words_of, without_return}
 
--- the first line ends at the first 0A
+-- The first line ends at the first 0A.
 pub first-line : (bytes : List ℕ) (i : ℕ) → i < length bytes → get_or bytes i 0 ≡ 10 → ((k : ℕ) → k < i → get_or bytes k 0 ≡ 10 → ⊥)
     → ended_lines bytes ≡ take i bytes ∷ ended_lines (drop (suc i) bytes)
 unfolding ended_lines
@@ -14,7 +14,7 @@ first-line (c ∷ rest) zero h e none = rw (eq-eqb c 10 e) refl
 first-line (c ∷ rest) (suc i) h e none =
     rw (ne_eqb c 10 (none 0 (omega arith)), first-line rest i (omega arith) e (λ k l. none (suc k) (omega arith))) refl
 
--- bytes without 0A have no whole line
+-- Bytes without 0A have no complete line.
 pub no-line : (bytes : List ℕ) → ((k : ℕ) → k < length bytes → get_or bytes k 0 ≡ 10 → ⊥) → ended_lines bytes ≡ []
 unfolding ended_lines
 no-line [] none = refl
@@ -28,7 +28,7 @@ unfolding is_whole
 whole-last c [] x e = ap (λ (b : ℕ). b == 10) (same-byte c x e)
 whole-last c (d ∷ rest) x e = whole-last d rest x e
 
--- the last byte says whether a text is whole
+-- The last byte decides whether a text is complete.
 pub whole-by-last : (bytes : List ℕ) (x : ℕ) → slice_get bytes (length bytes - 1) ≡ Some x → is_whole bytes ≡ (x == 10)
 whole-by-last [] x e = absurd cc
 whole-by-last (c ∷ rest) x e =
@@ -39,7 +39,7 @@ none-last : (c : ℕ) (rest : List ℕ) → slice_get (c ∷ rest) (length rest)
 none-last c [] e = cc
 none-last c (d ∷ rest) e = none-last d rest e
 
--- no byte is the last of none
+-- Only the empty text has no last byte.
 pub nil-by-last : (bytes : List ℕ) → slice_get bytes (length bytes - 1) ≡ None → bytes ≡ []
 nil-by-last [] e = refl
 nil-by-last (c ∷ rest) e =
@@ -64,7 +64,7 @@ return-last c (d ∷ rest) x e = ap (λ (r : List ℕ). c ∷ r) (return-last d 
     go true = refl
     go false = refl
 
--- the last byte says what is without a carriage return
+-- The last byte decides what is left without a carriage return.
 pub return-by-last : (bytes : List ℕ) (x : ℕ) → slice_get bytes (length bytes - 1) ≡ Some x
     → without_return bytes ≡ (if x == 13 then take (length bytes - 1) bytes else bytes)
 return-by-last [] x e = absurd cc
@@ -73,7 +73,7 @@ return-by-last (c ∷ rest) x e =
     subst (λ m. without_return (c ∷ rest) ≡ (if x == 13 then take m (c ∷ rest) else c ∷ rest)) (sym n)
     (return-last c rest x (subst (λ m. slice_get (c ∷ rest) m ≡ Some x) n e))
 
--- the first piece ends at the first byte that passes
+-- The first piece ends at the first byte that passes.
 pub piece-at : (p : ℕ → Bool) (bytes : List ℕ) (i : ℕ) → i < length bytes → p (get_or bytes i 0) ≡ true → ((k : ℕ) → k < i → p (get_or bytes k 0) ≡ false)
     → pieces p bytes ≡ take i bytes ∷ pieces p (drop (suc i) bytes)
 unfolding pieces
@@ -82,13 +82,13 @@ piece-at p (c ∷ rest) zero h e none = rw e refl
 piece-at p (c ∷ rest) (suc i) h e none =
     rw (none 0 (omega arith), piece-at p rest i (omega arith) e (λ k l. none (suc k) (omega arith))) refl
 
--- bytes of which none passes are one piece
+-- Bytes of which none passes are one piece.
 pub one-piece : (p : ℕ → Bool) (bytes : List ℕ) → ((k : ℕ) → k < length bytes → p (get_or bytes k 0) ≡ false) → pieces p bytes ≡ bytes ∷ []
 unfolding pieces
 one-piece p [] none = refl
 one-piece p (c ∷ rest) none = rw (none 0 (omega arith), one-piece p rest (λ k l. none (suc k) (omega arith))) refl
 
--- so are the bytes before a place, of which none is a space
+-- The bytes before a place are one field if none is a space.
 pub part-alone : (bytes : List ℕ) (i : ℕ) → ((k : ℕ) → k < i → is_space (get_or bytes k 0) ≡ false) → fields_of (take i bytes) ≡ take i bytes ∷ []
 unfolding pieces
 part-alone [] zero none = refl
@@ -96,7 +96,7 @@ part-alone [] (suc i) none = refl
 part-alone (c ∷ rest) zero none = refl
 part-alone (c ∷ rest) (suc i) none = rw (none 0 (omega arith), part-alone rest i (λ k l. none (suc k) (omega arith))) refl
 
--- the first word of a line that begins with one
+-- The first word of a line that begins with one.
 pub word-at : (bytes : List ℕ) (i : ℕ) → i < length bytes → 0 < i → is_space_or_tab (get_or bytes i 0) ≡ true → ((k : ℕ) → k < i → is_space_or_tab (get_or bytes k 0) ≡ false)
     → words_of bytes ≡ take i bytes ∷ words_of (drop (suc i) bytes)
 word-at [] i h some e none = absurd (omega arith)
@@ -107,7 +107,7 @@ pub one-word : (bytes : List ℕ) → 0 < length bytes → ((k : ℕ) → k < le
 one-word [] some none = absurd (omega arith)
 one-word (c ∷ rest) some none = ap (filter (λ word. not (is_empty word))) (one-piece is_space_or_tab (c ∷ rest) none)
 
--- blanks before words are nothing
+-- Blanks before words are dropped.
 pub past-blank : (bytes : List ℕ) (i : ℕ) → i < length bytes → is_space_or_tab (get_or bytes i 0) ≡ true → words_of (drop (i + 1) bytes) ≡ words_of (drop i bytes)
 unfolding pieces
 past-blank bytes i h e = rw (drop_more bytes i 0 h, e) refl

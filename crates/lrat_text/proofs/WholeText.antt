@@ -1,4 +1,4 @@
--- A log that was read is the whole text.
+-- A log that was read accounts for the complete text.
 use Rattle.std.proofs.Common.{◌≡◌, ◌<◌, ◌≤◌, ◌+◌, ◌-◌, ◌∙◌, ◌∷◌, ◌++◌, [], ℕ, suc, List, Bool, true, false, Option, Some, None, Result, Ok, Err, refl, sym, ap, arith, length, map, get_or, ne_eqb, eq-eqb, inl, inr, if◌then◌else◌, ◌&&◌, ◌⊎◌, append-nil, append_assoc}
 use Rattle.std.specs.Prelude.{codes, is_some}
 use Rattle.std.specs.Str.{bytes_eq}
@@ -67,7 +67,7 @@ placed-at next (m ∷ ms) h p e = elim (cases_eq m h) [
       (omega (arith, rest.0), omega (arith, rest.0, rest.1), rw less rest.2)
 ]
 
--- a hint's place has the number that the hint says
+-- The place of a hint has the number that the hint names.
 pub hint-named : (clauses : ℕ) (ns tail : List ℕ) (h p : ℕ) → hint_place clauses ns h ≡ Some p → number_in_text clauses (ns ++ tail) p ≡ h
 unfolding hint_place
 hint-named clauses ns tail h p e = elim (cases_lt clauses h) [
@@ -81,7 +81,7 @@ hint-named clauses ns tail h p e = elim (cases_lt clauses h) [
       rw (le-leb p clauses (omega (arith, le, same))) (sym same)
 ]
 
--- a positive literal is a number
+-- A positive literal is a number.
 pub positive-is : (l : Lit) (n : ℕ) → l.positive ≡ true → l.var ≡ n → literal_field l ≡ number_field n
 positive-is l n p e =
     ap (λ (b : Bool). Some (Number (record { var = l.var; positive = b }))) p ∙ ap (λ (v : ℕ). number_field v) e
@@ -92,7 +92,7 @@ more-hints place read = read >>= λ hints. Ok (place ∷ hints)
 abbrev pub AreHints : (ℕ → ℕ) → List (List ℕ) → List ℕ → Type 0
 AreHints named words hints = map field_of words ≡ map (λ place. number_field (named place)) hints ++ end_field ∷ []
 
--- a hint that was read has its place, and says that place's number
+-- A hint that was read has its place, and means that place's number.
 pub hint-whole : (n clauses : ℕ) (ns tail : List ℕ) (l : Lit) (place : ℕ) → hint_at n clauses ns l ≡ Ok place → literal_field l ≡ number_field (number_in_text clauses (ns ++ tail) place)
 hint-whole n clauses ns tail l place e = signed l.positive refl e
   where
@@ -142,12 +142,12 @@ hints-whole n clauses ns tail (word ∷ words) hints e = go (field_of word) refl
 
 -- ---- a line
 
--- a line that was passed over left what was read
+-- Whether a line was skipped and changed nothing.
 pub record IsPassed (ns : List ℕ) (before : List Line) (words : List (List ℕ)) (next : LogRead) : Type 0 where
   pub over : is_passed_over words ≡ true
   pub same : next ≡ record { numbers = ns; lines = before }
 
--- a line that wasn't is one line more, which says all its words
+-- Whether a line that was not skipped is one line of the log, which has the meaning of all its words.
 pub record IsKept (clauses : ℕ) (ns : List ℕ) (before : List Line) (words : List (List ℕ)) (next : LogRead) : Type 0 where
   pub kept : is_passed_over words ≡ false
   pub number : ℕ
@@ -156,7 +156,7 @@ pub record IsKept (clauses : ℕ) (ns : List ℕ) (before : List Line) (words : 
   pub rising : is_ascending (clauses ∷ ns ++ number ∷ []) ≡ true
   pub says : (tail : List ℕ) → map field_of words ≡ line_says (number_in_text clauses (ns ++ tail)) number line
 
--- the number of a line is what its first word says, and the next one
+-- Whether the number of a line is the meaning of its first word, and may be the next.
 pub record IsNumber (clauses : ℕ) (ns : List ℕ) (word : List ℕ) (number : ℕ) : Type 0 where
   pub said : field_of word ≡ number_field number
   pub next : is_next clauses ns number ≡ true
@@ -176,7 +176,7 @@ number-whole n clauses ns word number e = go (field_of word) refl e
     go (Some End) f e = absurd (err-ok _ _ e)
     go (Some (Number l)) f e = tested l (l.positive && is_next clauses ns l.var) refl f e
 
--- a line of the log
+-- A line of the log.
 pub with-line-whole : (n clauses : ℕ) (ns : List ℕ) (before : List Line) (word : List ℕ) (words : List (List ℕ)) (next : LogRead)
     → with_line n clauses (record { numbers = ns; lines = before }) word words ≡ Ok next → is_ascending (clauses ∷ ns) ≡ true → is_passed_over (word ∷ words) ≡ false
     → IsKept clauses ns before (word ∷ words) next
@@ -207,7 +207,7 @@ with-line-whole n clauses ns before word words next e up kept = number (number_o
     number (Err why) q e = absurd (err-ok _ _ e)
     number (Ok k) q e = lits k (number-whole n clauses ns word k q) (log_lits_at n words) refl e
 
--- a deletion leaves what was read
+-- A deletion changes nothing.
 deletion-whole : (n : ℕ) (state : LogRead) (word : List ℕ) (words : List (List ℕ)) (next : LogRead) → deletion n state word words ≡ Ok next → next ≡ state
 unfolding deletion
 deletion-whole n state word words next e = go (is_some (natural greatest word)) e
@@ -239,7 +239,7 @@ line-whole n clauses ns before (word ∷ words) next e up = comment (bytes_eq wo
 
 -- ---- lines
 
--- what was read with these lines: more lines, with numbers, which say all that isn't passed over
+-- Whether what was read with these lines accounts for each line that is not skipped.
 pub record AreWhole (clauses : ℕ) (ns : List ℕ) (before : List Line) (lines : List (List ℕ)) (state : LogRead) : Type 0 where
   pub numbers : List ℕ
   pub more : List Line
@@ -256,7 +256,7 @@ kept-line : (line : List ℕ) (lines : List (List ℕ)) → is_passed_over (word
 unfolding kept_lines
 kept-line line lines e = rw e refl
 
--- one line more in front
+-- Another line in front.
 join-kept : (clauses : ℕ) (ns : List ℕ) (before : List Line) (line : List ℕ) (lines : List (List ℕ)) (next state : LogRead) (kept : IsKept clauses ns before (words_of (without_return line)) next)
     → AreWhole clauses (ns ++ kept.number ∷ []) (before ++ kept.line ∷ []) lines state → AreWhole clauses ns before (line ∷ lines) state
 join-kept clauses ns before line lines next state kept rest =
@@ -312,7 +312,7 @@ lines-whole n clauses ns before (line ∷ lines) state e up =
     go (Err why) q rec e = absurd (err-ok _ _ e)
     go (Ok next) q rec e = one next (line-whole n clauses ns before (words_of (without_return line)) next q up) rec e
 
--- a log that was read is the whole text
+-- A log that was read accounts for the complete text.
 pub text-whole : (clauses : ℕ) (text : List ℕ) (log : Log) → log_of text clauses ≡ Ok log → IsWholeText clauses text log
 unfolding log_of
 text-whole clauses text log e = whole (is_whole text) e

@@ -1,4 +1,4 @@
--- Texts of which each log has one: what the writer writes, said of the text alone.
+-- Plain texts, of which each log has exactly one: the texts that the writer writes, described without it.
 use Rattle.std.specs.Prelude.{ℕ, Bool, true, not, ◌≡◌, ◌+◌, ◌==◌, ◌||◌, if◌then◌else◌, List, [], ◌∷◌, Some, None}
 use Rattle.std.specs.List.{list_all}
 use Rattle.pack_defs.specs.Lists.{is_empty}
@@ -6,29 +6,30 @@ use Rattle.lrat_text.specs.Lines.{with_spaces, without_return, words_of}
 use Rattle.lrat_text.specs.LogText.{greatest}
 use Rattle.lrat_text.specs.LogReading.{behind_d, natural}
 
--- the digits are one, or don't begin with 0
+-- Whether the digits are a single one, or do not begin with 0.
 abbrev pub has_no_nought : List ℕ → Bool
 has_no_nought [] = true
 has_no_nought (c ∷ rest) = is_empty rest || not (c == 48)
 
--- a number without leading zeros, behind a minus sign neither
+-- Whether a number has no leading zero, neither at its start nor after a minus sign.
 unfoldable pub is_shortest : List ℕ → Bool
 is_shortest [] = true
 is_shortest (c ∷ rest) = if c == 45 then has_no_nought rest else has_no_nought (c ∷ rest)
 
--- the first word says this number, and the second is no `d`: so the line is no comment and no deletion
+-- Whether the first word spells this number and the second is no `d`, so that the line is neither a comment nor a
+-- deletion.
 abbrev pub IsNumberedLine : ℕ → List (List ℕ) → Type 0
 IsNumberedLine number [] = ⊥
 IsNumberedLine number (word ∷ words) = (natural greatest word ≡ Some number) × (behind_d words ≡ None)
 
--- A line that is nothing but its words, with one space between two of them, none with leading zeros, and the first of
--- which says this number.
+-- Whether a line is nothing but its words, separated by single spaces and without leading zeros, and its first word
+-- spells this number.
 pub record IsPlain (number : ℕ) (line : List ℕ) : Type 0 where
   pub spaced : line ≡ with_spaces (words_of (without_return line))
   pub shortest : list_all is_shortest (words_of (without_return line)) ≡ true
   pub numbered : IsNumberedLine number (words_of (without_return line))
 
--- such lines, numbered on from here
+-- Whether these are plain lines, numbered from this number on.
 abbrev pub ArePlain : ℕ → List (List ℕ) → Type 0
 ArePlain number [] = Unit {0}
 ArePlain number (line ∷ lines) = IsPlain number line × ArePlain (number + 1) lines

@@ -1,4 +1,4 @@
-//! Why a text is refused.
+//! The error of the reader.
 
 ghost use Rattle.std.specs.Prelude.{◌≡◌};
 ghost use Rattle.lrat_text.specs.declared.error.LratErr.TheVariants.{NoMemory};
@@ -6,11 +6,11 @@ ghost use Rattle.lrat_text.specs.declared.error.LratErr.TheVariants.{NoMemory};
 use std::alloc::{AllocError, AllocFailed};
 use thiserror::Error;
 
-/// Why a text is no proof log. A line is named by its place in the text, from 1.
+/// Why a text is not a proof log. Lines are counted from 1.
 ///
-/// `Truncated`: the text ends within a line; this comes before all others. `BadLine`: the line is no line of a log.
-/// `RatStep`: a hint of the line is negative, so the line is a RAT step of LRAT, which the checker has none of.
-/// `NoMemory`: memory ran out.
+/// `Truncated`: the text ends within a line; this error comes before all others. `BadLine`: the line is not a line of
+/// a log. `RatStep`: a hint of the line is negative, so the line is a RAT step of LRAT, which the checker does not
+/// support. `NoMemory`: memory ran out.
 #[derive(Clone, Copy, Debug, PartialEq, Eq, Error)]
 pub enum LratErr {
     #[error("truncated")]

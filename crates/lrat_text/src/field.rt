@@ -1,23 +1,24 @@
-//! The numbers in fields, read digit by digit where they lie.
+//! Reads numbers from fields, digit by digit and without a copy.
 
 ghost use Rattle.std.specs.Prelude.{◌≡◌};
 ghost use Rattle.lrat_text.specs.LogReading.{field_of, natural, signed_field};
 
 use clause_db::lit::Lit;
 
-/// The greatest number of a log's text.
+/// The greatest number in a log's text, 2^63 - 1.
 pub const GREATEST: u64 = 9_223_372_036_854_775_807;
 
-/// What a field of a log's line says as a number.
+/// The number in a field of a log's line.
 #[derive(Clone, Copy, Debug, PartialEq, Eq)]
 pub enum Field {
     /// 0, which ends a list.
     End,
-    /// A literal, or a number: its variable, where it is positive.
+    /// A literal; if it is positive, also the number of its variable.
     Number(Lit),
 }
 
-/// The number that one or more digits say, leading zeros allowed, where it is at most `most`.
+/// Returns the number that the digits spell, with leading zeros allowed. Returns `None` if the field is empty, has
+/// another byte than a digit, or exceeds `most`.
 pub fn natural(most: u64, field: &[u8]) -> Option<u64>
     ensures { result ≡ natural most field.now }
 {
@@ -41,7 +42,7 @@ pub fn natural(most: u64, field: &[u8]) -> Option<u64>
     Some(value)
 }
 
-// What a number says with this sign.
+// The field's meaning, given the sign and the number.
 fn signed(positive: bool, n: u64) -> Option<Field>
     ensures { result ≡ signed_field positive n }
 {
@@ -54,7 +55,8 @@ fn signed(positive: bool, n: u64) -> Option<Field>
     Some(Field::Number(Lit { var: n, positive }))
 }
 
-/// What a field says as a number of a log's line, which may have a minus sign.
+/// Returns the meaning of a field of a log's line. The field may have a minus sign. Returns `None` if it is no number
+/// up to [`GREATEST`].
 #[tactic(auto, unfolding(crate::specs::LogReading::field_of))]
 pub fn field_of(field: &[u8]) -> Option<Field>
     ensures { result ≡ field_of field.now }

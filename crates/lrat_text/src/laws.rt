@@ -1,5 +1,5 @@
-//! What holds of the texts of logs, about the definitions alone: a log that is written is read again as itself, and a
-//! plain text is the one that is written of the log which it says.
+//! Laws of the texts of logs, which speak of the definitions alone: worked examples, the round trip, and that reading
+//! loses nothing.
 
 ghost use Rattle.std.specs.Prelude.{◌≡◌, ◌+◌, ◌≤◌, [], ℕ, List, Ok, Err, codes, length};
 ghost use Rattle.clause_db.specs.declared.lit.Lit.{Lit};
@@ -14,7 +14,7 @@ ghost use Rattle.lrat_text.specs.LogText.{AreSpelled, greatest, log_text};
 ghost use Rattle.lrat_text.specs.LogReading.{log_of};
 ghost use Rattle.lrat_text.specs.WholeText.{IsWholeText};
 
-/// The text of a refutation of three stations on two channels, both ways, and some texts that are refused.
+/// The text of a refutation of three stations on two channels, written and read, and some texts that are rejected.
 pub fn texts_of_three_stations()
     ensures written { log_text 13 two_lines ≡ two_lines_text }
     ensures read { log_of two_lines_text 12 ≡ Ok (record { lines = two_lines }) }
@@ -24,29 +24,29 @@ pub fn texts_of_three_stations()
     ensures passed { log_of (codes "c d 1\r\n\n1 d 0\n") 12 ≡ Ok (record { lines = [] }) }
 {}
 
-/// A log that is written, its lines numbered on from the clauses, is read again as itself over these.
+/// A log that is written with its lines numbered after the clauses is read back as itself.
 pub fn a_written_log_is_read()
     ensures { (clauses : ℕ) (lines : List Line) → AreSpelled (clauses + 1) lines → log_of (log_text (clauses + 1) lines) clauses ≡ Ok (record { lines = lines }) }
 {}
 
-/// A log that is read is the whole text: no line is passed over but those without a word, comments and deletions, and
-/// of each other line the log has every word.
+/// A log that is read accounts for the complete text. Only empty lines, comments and deletions are skipped; every
+/// word of every other line is in the log.
 pub fn a_log_is_the_whole_text()
     ensures { (clauses : ℕ) (text : List ℕ) (log : Log) → log_of text clauses ≡ Ok log → IsWholeText clauses text log }
 {}
 
-/// Two plain texts that say the same log are the same bytes, those that are written of it: of a text whose lines are
-/// numbered on from the clauses and are nothing but their words, no byte is passed over.
+/// Two plain texts of the same log are the same bytes, those that are written of the log. A text is plain if its
+/// lines are numbered after the clauses and have nothing but their words; no byte of it is skipped.
 pub fn a_plain_text_is_what_is_written()
     ensures { (clauses : ℕ) (text : List ℕ) (log : Log) → ArePlain (clauses + 1) (ended_lines text) → log_of text clauses ≡ Ok log → text ≡ log_text (clauses + 1) log.lines }
 {}
 
-/// A log that follows can be written, where its numbers don't grow too great for a text.
+/// A log whose lines follow can be written, if its numbers fit a text.
 pub fn a_log_that_follows_is_spelled()
     ensures { (vars : ℕ) (clauses : List (List Lit)) (lines : List Line) → Follows vars clauses lines → vars ≤ greatest → length clauses + length lines ≤ greatest → AreSpelled (length clauses + 1) lines }
 {}
 
-/// So a log that follows is read again from its text as itself.
+/// So a log whose lines follow is read back from its text as itself.
 pub fn a_log_that_follows_is_read_again()
     ensures { (vars : ℕ) (clauses : List (List Lit)) (lines : List Line) → Follows vars clauses lines → vars ≤ greatest → length clauses + length lines ≤ greatest → log_of (log_text (length clauses + 1) lines) (length clauses) ≡ Ok (record { lines = lines }) }
 {}

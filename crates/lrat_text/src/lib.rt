@@ -1,8 +1,17 @@
-//! Proof logs as texts in LRAT's lines, both ways, and formulas as texts in DIMACS CNF. So a formula can be handed to
-//! any solver, and the proof that comes back, from whatever program, be read and given to the checker.
+//! Proof logs as texts in LRAT's format (Cruz-Filipe et al. 2017), written and read, and formulas as texts in DIMACS
+//! CNF, written. A formula can so be given to any solver, and the solver's proof can be read and given to the
+//! checker.
 //!
-//! It may call `rup_check` and `clause_db`, and neither opens a file nor judges a proof. Read `error` and `lines` first, then `read`,
-//! then `write`; that what is written is read again is in `laws`.
+//! The crate uses `rup_check` and `clause_db`. It opens no file and checks no proof.
+//!
+//! Modules, in reading order:
+//!
+//! - `error`: why a text is rejected.
+//! - `lines`: splits lines, fields and words.
+//! - `field`: reads numbers.
+//! - `read`: reads a log.
+//! - `write`: writes logs and formulas.
+//! - `laws`: the round-trip laws.
 #![tactic(auto)]
 
 mod error;

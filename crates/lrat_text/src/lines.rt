@@ -1,4 +1,4 @@
-//! The lines of a text, and the fields and words of a line, each a part of the text where it lies.
+//! Splits a text into lines, and a line into fields or words. Each part is a slice of the text.
 
 ghost use Rattle.std.specs.Prelude.{◌≡◌, ◌<◌, ◌∷◌, [], IfSome, MatchOption, false, length, slice_index_or};
 ghost use Rattle.std.specs.Option.{option_map_or};
@@ -7,10 +7,11 @@ ghost use Rattle.lrat_text.specs.Lines.{fields_of, is_space_or_tab, is_whole, en
 /// The byte that ends a line.
 const LINE_FEED: u8 = 10;
 
-/// The byte that may stand before it.
+/// The byte that may precede a line end.
 const RETURN: u8 = 13;
 
-/// The first whole line of a text, without its end, and the text behind it. None where no line is whole.
+/// Returns the first complete line of a text without its end, and the text after it, or `None` if no line is
+/// complete.
 pub fn split_line(text: &[u8]) -> Option<(&[u8], &[u8])>
     ensures lines { MatchOption result (ended_lines text.now ≡ []) (λ x. ended_lines text.now ≡ x.0.now ∷ ended_lines x.1.now) }
     ensures shorter { IfSome result (λ x. length x.1.now < length text.now) }
@@ -23,7 +24,7 @@ pub fn split_line(text: &[u8]) -> Option<(&[u8], &[u8])>
     None
 }
 
-/// Whether no byte stands behind the end of a text's last line.
+/// Whether the text is empty or ends with a line end.
 pub fn is_whole(text: &[u8]) -> bool
     ensures { result ≡ is_whole text.now }
 {
@@ -33,7 +34,7 @@ pub fn is_whole(text: &[u8]) -> bool
     }
 }
 
-/// A line without a carriage return at its end.
+/// Returns the line without a carriage return at its end.
 pub(crate) fn without_return(line: &[u8]) -> &[u8]
     ensures { result.now ≡ without_return line.now }
 {
@@ -49,8 +50,8 @@ pub(crate) fn without_return(line: &[u8]) -> &[u8]
     }
 }
 
-/// The first field of a line in which one space stands between two of them, and what stands behind that space, if
-/// there is one.
+/// Returns the first field of a line whose fields are separated by single spaces, and what is after the space. The
+/// second is `None` if the field ends the line.
 pub fn split_field(line: &[u8]) -> (&[u8], Option<&[u8]>)
     ensures fields { fields_of line.now ≡ result.0.now ∷ option_map_or (λ rest. fields_of rest.now) result.1 [] }
     ensures alone { fields_of result.0.now ≡ result.0.now ∷ [] }
@@ -64,14 +65,14 @@ pub fn split_field(line: &[u8]) -> (&[u8], Option<&[u8]>)
     (line, None)
 }
 
-// Whether a byte stands between words.
+// Whether the byte separates words.
 fn is_blank(byte: u8) -> bool
     ensures { result ≡ is_space_or_tab byte }
 {
     byte == b' ' || byte == b'\t'
 }
 
-// The word at the start of a line that begins with one, and what stands behind it.
+// Returns the first word of a line that begins with one, and what follows the blank after it.
 fn split_word(line: &[u8]) -> (&[u8], &[u8])
     requires some { 0 < length line.now }
     requires word { is_space_or_tab (slice_index_or line.now 0 0) ≡ false }
@@ -86,7 +87,8 @@ fn split_word(line: &[u8]) -> (&[u8], &[u8])
     (line, &[])
 }
 
-/// The first word of a line, with blanks between them and round them, and what stands behind it.
+/// Returns the first word of a line, and what is after it, or `None` if the line has only blanks. Blanks may surround
+/// words.
 pub(crate) fn next_word(line: &[u8]) -> Option<(&[u8], &[u8])>
     ensures words { MatchOption result (words_of line.now ≡ []) (λ x. words_of line.now ≡ x.0.now ∷ words_of x.1.now) }
     ensures shorter { IfSome result (λ x. length x.1.now < length line.now) }

@@ -1,6 +1,7 @@
-//! The reading of a log's text. `read_log` takes line after line; `line_said` tells a comment, a deletion and a line
-//! of the log apart, and `log_line` reads the last: its number, its literals up to a 0, and its hints up to another.
-//! What was read so far is the lines and their numbers, in which the hints of later lines are looked up.
+//! Reads the text of a log in LRAT's format. `read_log` goes line by line. `line_said` distinguishes comments,
+//! deletions and lines of the log. `log_line` reads a line of the log: a number, literals up to a 0, and hints up to
+//! another 0. The numbers of the lines read so far are kept, because a hint names a line by its number and a `Log` by
+//! its place.
 
 ghost use Rattle.std.specs.Prelude.{◌≡◌, ◌++◌, ◌∷◌, [], IfOk, IfSome, List, MatchBool, MatchOption, None, Some};
 ghost use Rattle.std.specs.List.{slice_get};
@@ -29,7 +30,7 @@ fn is_bare(words: &[u8]) -> bool
     }
 }
 
-// The literals before a 0, into a list that is emptied first, and what stands behind it, on the n-th line.
+// Reads the literals before a 0 on line `n` into `lits`, which is cleared first. Returns what is after the 0.
 pub(crate) fn lits_of<'a>(n: u64, words: &'a [u8], lits: &mut Vec<Lit>) -> Result<&'a [u8], LratErr>
     ensures { LogGives (λ rest. (lits.new.items, words_of rest.now)) (log_lits_at n (words_of words.now)) result }
 {
@@ -46,7 +47,7 @@ pub(crate) fn lits_of<'a>(n: u64, words: &'a [u8], lits: &mut Vec<Lit>) -> Resul
     Err(LratErr::BadLine { n })
 }
 
-// Whether the words behind a deletion's `d` are numbers and a 0 at the end, on the n-th line.
+// Checks that the words after a deletion's `d` on line `n` are numbers and a 0 at the end.
 pub(crate) fn deleted(n: u64, words: &[u8]) -> Result<(), LratErr>
     ensures { LogGives (λ u. u) (deleted_at n (words_of words.now)) result }
 {
@@ -71,7 +72,7 @@ pub(crate) fn deleted(n: u64, words: &[u8]) -> Result<(), LratErr>
     Err(LratErr::BadLine { n })
 }
 
-// Whether this number stands at a place.
+// Whether this number is at this place.
 fn stands_at(numbers: &[u64], place: u64, number: u64) -> bool
     ensures { MatchBool result (slice_get numbers.now place ≡ Some number) (slice_get numbers.now place ≡ Some number → ⊥) }
 {
@@ -81,7 +82,8 @@ fn stands_at(numbers: &[u64], place: u64, number: u64) -> bool
     }
 }
 
-// What a hint names: a clause by its number, or a line so far by its place behind the clauses.
+// Returns the place of what a hint names: a clause has its number, a line its place after the clauses. Returns `None`
+// if the hint names neither.
 pub(crate) fn hint_place(clauses: u64, numbers: &[u64], h: u64) -> Option<u64>
     requires { AreLineNumbers clauses numbers.now }
     ensures { result ≡ hint_place clauses numbers.now h }
@@ -89,7 +91,7 @@ pub(crate) fn hint_place(clauses: u64, numbers: &[u64], h: u64) -> Option<u64>
     if h <= clauses {
         return Some(h);
     }
-    // As long as no number was skipped, each line's number is its place.
+    // Unless a number was skipped, a line's number is its place; this saves the binary search.
     if stands_at(numbers, h - clauses - 1, h) {
         return Some(h);
     }
@@ -99,7 +101,7 @@ pub(crate) fn hint_place(clauses: u64, numbers: &[u64], h: u64) -> Option<u64>
     }
 }
 
-// What a hint says on the n-th line: the place of what it names.
+// Returns the place of what a hint on line `n` names.
 fn hint_at(n: u64, clauses: u64, numbers: &[u64], hint: Lit) -> Result<u64, LratErr>
     requires { AreLineNumbers clauses numbers.now }
     ensures { LogGives (λ place. place) (hint_at n clauses numbers.now hint) result }
@@ -113,8 +115,8 @@ fn hint_at(n: u64, clauses: u64, numbers: &[u64], hint: Lit) -> Result<u64, Lrat
     Ok(place)
 }
 
-// The hints before a 0 that is the last word, each the place of what it names, on the n-th line, into a list that is
-// emptied first.
+// Reads the hints before a 0, which must be the last word of line `n`, into `hints`, which is cleared first. Each
+// hint becomes the place of what it names.
 pub(crate) fn hints_of(
     n: u64,
     clauses: u64,
@@ -146,14 +148,14 @@ pub(crate) fn hints_of(
     Err(LratErr::BadLine { n })
 }
 
-// Room for the literals and hints of one line, which is used again for each.
+// Buffers for the literals and hints of one line, reused for each line.
 #[derive(Drop)]
 struct Scratch {
     lits: Vec<Lit>,
     hints: Vec<u64>,
 }
 
-// Whether a number is above the clauses and above those of all lines so far.
+// Whether a number is above the clauses and above the numbers of all lines so far.
 fn is_next(clauses: u64, numbers: &[u64], number: u64) -> bool
     requires { AreLineNumbers clauses numbers.now }
     ensures { result ≡ is_next clauses numbers.now number }
@@ -167,7 +169,7 @@ fn is_next(clauses: u64, numbers: &[u64], number: u64) -> bool
     }
 }
 
-// The number that a word gives a line of the log, on the n-th line of the text.
+// Returns the number of a log's line, spelled by the first word of line `n` of the text.
 fn number_of(n: u64, clauses: u64, numbers: &[u64], word: &[u8]) -> Result<u64, LratErr>
     requires { AreLineNumbers clauses numbers.now }
     ensures rises { IfOk result (λ x. AreLineNumbers clauses (numbers.now ++ x ∷ [])) }
@@ -188,7 +190,7 @@ fn number_of(n: u64, clauses: u64, numbers: &[u64], word: &[u8]) -> Result<u64, 
     }
 }
 
-// The line of a log that these words are, on the n-th line of the text: its number, and in the scratch the rest of it.
+// Reads a line of the log from line `n` of the text. Returns its number, and leaves the rest in `scratch`.
 #[tactic(auto, unfolding(crate::specs::LogReading::with_line))]
 fn log_line(
     n: u64,
@@ -208,7 +210,7 @@ fn log_line(
     Ok(number)
 }
 
-// What a deletion line says behind its number and its `d`, on the n-th line of the text: nothing.
+// Checks a deletion on line `n`: the word before `d`, and the words after it. A deletion changes nothing.
 #[tactic(auto, unfolding(crate::specs::LogReading::deletion))]
 fn deletion(n: u64, word: &[u8], words: &[u8]) -> Result<(), LratErr>
     ensures { (state : LogRead) → LogGives (λ u. state) (deletion n state word.now (words_of words.now)) result }
@@ -219,7 +221,7 @@ fn deletion(n: u64, word: &[u8], words: &[u8]) -> Result<(), LratErr>
     deleted(n, words)
 }
 
-// What stands behind a `d`, if that is the first word.
+// Returns what follows a `d`, if that is the first word.
 fn behind_d(words: &[u8]) -> Option<&[u8]>
     ensures { MatchOption result (behind_d (words_of words.now) ≡ None) (λ rest. behind_d (words_of words.now) ≡ Some (words_of rest.now)) }
 {
@@ -232,8 +234,8 @@ fn behind_d(words: &[u8]) -> Option<&[u8]>
     None
 }
 
-// What a line says, the n-th of the text: a line of the log, of which this gives the number and the scratch has the rest,
-// or nothing.
+// Reads line `n` of the text. For a line of the log, returns its number and leaves the rest in `scratch`; for any
+// other line, returns `None`.
 #[tactic(auto, unfolding(crate::specs::LogReading::after_words))]
 fn line_said(
     n: u64,
@@ -276,7 +278,7 @@ impl Model for SoFar {
     ghost view = { λ s. record { numbers = s.numbers.items; lines = s.lines } };
 }
 
-// One line more, if there is one: its number, and the rest of it in the scratch.
+// Appends the line that was read, if there is one; `scratch` has its literals and hints.
 fn with_said(
     numbers: Vec<u64>,
     lines: Lines,
@@ -294,7 +296,7 @@ fn with_said(
     Ok(SoFar { numbers, lines })
 }
 
-// What was read with the n-th line of the text.
+// Returns what was read, including line `n` of the text.
 fn after_line(
     n: u64,
     clauses: u64,
@@ -316,15 +318,15 @@ fn after_line(
     }
 }
 
-/// The proof log that a text says in LRAT's lines over this number of clauses. Words stand between blanks, a carriage
-/// return before the end of a line is dropped, lines without a word, comments and deletions are passed over, and each
-/// hint becomes the place of the clause or line that it names. It goes over the text once, and takes memory for what
-/// it read.
+/// Returns the proof log that a text spells in LRAT's format over this number of clauses. Words are separated by
+/// blanks, and a carriage return before a line end is dropped. Empty lines, comments and deletions are skipped. Each
+/// hint becomes the place of the clause or line that it names. Makes one pass over the text, and allocates what it
+/// returns.
 ///
 /// # Errors
 ///
-/// `Truncated` where the text ends within a line; else `BadLine` or `RatStep` of the first line at fault; `NoMemory`
-/// where memory ran out.
+/// `Truncated` if the text ends within a line; otherwise `BadLine` or `RatStep` for the first invalid line;
+/// `NoMemory` if memory runs out.
 pub fn read_log(alloc: Global, text: &[u8], clauses: u64) -> Result<Log, LratErr>
     ensures { LogGives (λ log. log) (log_of text.now clauses) result }
 {

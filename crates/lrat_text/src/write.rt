@@ -1,4 +1,4 @@
-//! The writing of logs and formulas, number by number behind the text so far.
+//! Writes logs and formulas. Each `push_` call appends to a text.
 
 ghost use Rattle.std.specs.Prelude.{◌≡◌, ◌+◌, ◌≤◌, ◌^◌, ◌++◌, ℕ, IfOk, OnErr, OnOk, decimal, length, map, take};
 ghost use Rattle.lrat_text.specs.Lines.{line_of};
@@ -11,7 +11,7 @@ use rup_check::cursors::{Hints, Literals};
 use rup_check::line::Log;
 use std::alloc::{AllocError as NoMemory, Global};
 
-/// Adds a number. The only error is want of memory, and the text is as before then.
+/// Appends a number. Fails only if memory runs out, and then the text is unchanged.
 pub fn push_number(text: &mut Vec<u8>, n: u64) -> Result<(), NoMemory>
     ensures written { OnOk result (text.new.items ≡ text.old.items ++ decimal n) }
     ensures kept { OnErr result (text.new.items ≡ text.old.items) }
@@ -20,7 +20,7 @@ pub fn push_number(text: &mut Vec<u8>, n: u64) -> Result<(), NoMemory>
     text.extend_from_slice(buffer.format(n).as_bytes())
 }
 
-// Adds a literal.
+// Appends a literal.
 fn push_lit(text: &mut Vec<u8>, lit: Lit) -> Result<(), NoMemory>
     ensures written { OnOk result (text.new.items ≡ text.old.items ++ lit_text lit) }
     ensures begins { (n : ℕ) × (text.new.items ≡ text.old.items ++ take n (lit_text lit)) }
@@ -32,7 +32,7 @@ fn push_lit(text: &mut Vec<u8>, lit: Lit) -> Result<(), NoMemory>
     push_number(text, lit.var)
 }
 
-// Adds the literals that are left, each behind a space.
+// Appends the remaining literals, each after a space.
 fn push_lits(text: &mut Vec<u8>, lits: Literals<'_>) -> Result<(), NoMemory>
     ensures written { OnOk result (text.new.items ≡ text.old.items ++ spaced (map lit_text lits.entry)) }
     ensures begins { (n : ℕ) × (text.new.items ≡ text.old.items ++ take n (spaced (map lit_text lits.entry))) }
@@ -45,7 +45,7 @@ fn push_lits(text: &mut Vec<u8>, lits: Literals<'_>) -> Result<(), NoMemory>
     Ok(())
 }
 
-// Adds the hints that are left, each behind a space.
+// Appends the remaining hints, each after a space.
 fn push_hints(text: &mut Vec<u8>, hints: Hints<'_>) -> Result<(), NoMemory>
     ensures written { OnOk result (text.new.items ≡ text.old.items ++ spaced (map decimal hints.entry)) }
     ensures begins { (n : ℕ) × (text.new.items ≡ text.old.items ++ take n (spaced (map decimal hints.entry))) }
@@ -58,7 +58,7 @@ fn push_hints(text: &mut Vec<u8>, hints: Hints<'_>) -> Result<(), NoMemory>
     Ok(())
 }
 
-/// Adds numbers, each behind a space. The only error is want of memory, and the text is as before then.
+/// Appends numbers, each after a space. Fails only if memory runs out, and then the text is unchanged.
 pub fn push_numbers(text: &mut Vec<u8>, numbers: &[u64]) -> Result<(), NoMemory>
     ensures written { OnOk result (text.new.items ≡ text.old.items ++ spaced (map decimal numbers.now)) }
     ensures kept { OnErr result (text.new.items ≡ text.old.items) }
@@ -73,7 +73,7 @@ pub fn push_numbers(text: &mut Vec<u8>, numbers: &[u64]) -> Result<(), NoMemory>
     }
 }
 
-// Adds numbers, each behind a space. Where memory runs out the first bytes of what was to be added may stand there.
+// Appends numbers, each after a space. If memory runs out, a part of them may have been appended.
 fn push_each(text: &mut Vec<u8>, numbers: &[u64]) -> Result<(), NoMemory>
     ensures written { OnOk result (text.new.items ≡ text.old.items ++ spaced (map decimal numbers.now)) }
     ensures begins { (n : ℕ) × (text.new.items ≡ text.old.items ++ take n (spaced (map decimal numbers.now))) }
@@ -85,7 +85,7 @@ fn push_each(text: &mut Vec<u8>, numbers: &[u64]) -> Result<(), NoMemory>
     Ok(())
 }
 
-// Adds a line of a log.
+// Appends a line of a log.
 fn push_log_line(
     text: &mut Vec<u8>,
     number: u64,
@@ -103,8 +103,8 @@ fn push_log_line(
     Ok(())
 }
 
-/// Adds a log, its lines numbered on from `first`: each is its number, its literals, 0, its hints and 0. The only
-/// error is want of memory, and the text is as before then.
+/// Appends a log, whose lines are numbered from `first` on: each is its number, its literals, 0, its hints and 0.
+/// Fails only if memory runs out, and then the text is unchanged.
 pub fn push_log(text: &mut Vec<u8>, first: u64, log: &Log) -> Result<(), NoMemory>
     requires { first + length log.now.lines ≤ 2 ^ 63 }
     ensures written { OnOk result (text.new.items ≡ text.old.items ++ log_text first log.now.lines) }
@@ -120,7 +120,7 @@ pub fn push_log(text: &mut Vec<u8>, first: u64, log: &Log) -> Result<(), NoMemor
     }
 }
 
-// Adds the lines of a log. Where memory runs out the first bytes of what was to be added may stand there.
+// Appends the lines of a log. If memory runs out, a part of them may have been appended.
 fn push_lines(text: &mut Vec<u8>, first: u64, log: &Log) -> Result<(), NoMemory>
     requires { first + length log.now.lines ≤ 2 ^ 63 }
     ensures written { OnOk result (text.new.items ≡ text.old.items ++ log_text first log.now.lines) }
@@ -137,7 +137,7 @@ fn push_lines(text: &mut Vec<u8>, first: u64, log: &Log) -> Result<(), NoMemory>
     Ok(())
 }
 
-/// The text of a log, its lines numbered on from `first`. The only error is want of memory.
+/// Returns the text of a log, whose lines are numbered from `first` on. Fails only if memory runs out.
 pub fn write_log(alloc: Global, first: u64, log: &Log) -> Result<Vec<u8>, NoMemory>
     requires { first + length log.now.lines ≤ 2 ^ 63 }
     ensures { IfOk result (λ text. text.items ≡ log_text first log.now.lines) }
@@ -147,7 +147,7 @@ pub fn write_log(alloc: Global, first: u64, log: &Log) -> Result<Vec<u8>, NoMemo
     Ok(text)
 }
 
-// Adds a clause.
+// Appends a clause.
 fn push_clause(text: &mut Vec<u8>, clause: &[Lit]) -> Result<(), NoMemory>
     ensures { OnOk result (text.new.items ≡ text.old.items ++ line_of (clause_fields clause.now)) }
 {
@@ -159,7 +159,7 @@ fn push_clause(text: &mut Vec<u8>, clause: &[Lit]) -> Result<(), NoMemory>
     Ok(())
 }
 
-// Adds the first line of a formula.
+// Appends the first line of a formula.
 fn push_header(text: &mut Vec<u8>, clauses: &ClauseList) -> Result<(), NoMemory>
     ensures { OnOk result (text.new.items ≡ text.old.items ++ formula_header clauses.now) }
 {
@@ -171,7 +171,7 @@ fn push_header(text: &mut Vec<u8>, clauses: &ClauseList) -> Result<(), NoMemory>
     Ok(())
 }
 
-/// The text of a formula in DIMACS CNF, without comments. The only error is want of memory.
+/// Returns the text of a formula in DIMACS CNF, without comments. Fails only if memory runs out.
 pub fn write_dimacs(alloc: Global, clauses: &ClauseList) -> Result<Vec<u8>, NoMemory>
     ensures { IfOk result (λ text. text.items ≡ dimacs_text clauses.now) }
 {

@@ -1,6 +1,8 @@
 //! The clock's prices and offers.
 //!
-//! It may call `pack_defs` alone, and knows of no query and no station's state. `offers` is all of it.
+//! The crate may call `pack_defs` alone, and knows no query and no station's state. Its only module:
+//!
+//! - `offers`: the prices of all rounds, and a station's offer.
 #![tactic(auto)]
 
 pub mod offers;

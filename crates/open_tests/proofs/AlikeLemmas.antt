@@ -1,4 +1,4 @@
--- Steps that move an auction alike: two lists of steps that differ only in how steps without room are shown.
+-- Steps that move an auction alike: two lists that differ only in how steps without room are settled.
 use Rattle.std.proofs.Common.{◌≡◌, ℕ, ◌-◌, ◌==◌, ◌&&◌, false, if◌then◌else◌, List, [], ◌∷◌, ◌++◌, Option, Some, None, refl, sym, ap, subst, ◌∙◌}
 use Rattle.std.specs.Option.{option_map_or, unwrap_or}
 use Rattle.pack_defs.specs.declared.scenario.Scenario.{Scenario}
@@ -12,7 +12,7 @@ use Rattle.auction_core.specs.declared.record.Step.{Step}
 use Rattle.auction_core.specs.State.{CoreState, fit_of, last_fit, set_in, settled, settled_unasked, shows_room, test_of, tested_set}
 use Rattle.auction_core.specs.Backed.{after_steps}
 
--- one by one the steps are of one test, and both show room or neither, with the same fit
+-- Whether the steps, pair by pair, have the same test, both show room or neither, and have the same fit.
 abbrev pub AreAlike : List Step → List Step → Type 0
 AreAlike [] [] = Unit {0}
 AreAlike [] (y ∷ ys) = ⊥
@@ -32,7 +32,7 @@ alike-push (z ∷ xs) (w ∷ ys) x y a b = (a.0, a.1, a.2, alike-push xs ys x y 
 
 -- ---- what is read of them
 
--- what a test asked about
+-- The set that a test asked about is the same.
 same-set : (sc : Scenario) (book : BookView) (clock : ClockState) (xs ys : List Step) (r s : ℕ) → AreAlike xs ys → set_in sc book clock xs r s ≡ set_in sc book clock ys r s
 same-set sc book clock [] [] r s a = refl
 same-set sc book clock [] (y ∷ ys) r s a = absurd a
@@ -42,7 +42,7 @@ same-set sc book clock (x ∷ xs) (y ∷ ys) r s a =
     ∙ ap (λ (o : Option (List ℕ)). if (y.round == r) && (y.station == s) then Some (tested_set sc book clock s) else o)
     (same-set sc book (after_answer sc clock (test_of y) (shows_room y.shown)) xs ys r s a.3)
 
--- a station's last fit
+-- A station's last fit is the same.
 same-fit : (xs ys : List Step) (s : ℕ) (entries : List (ℕ × ℕ)) → AreAlike xs ys → last_fit xs s entries ≡ last_fit ys s entries
 same-fit [] [] s entries a = refl
 same-fit [] (y ∷ ys) s entries a = absurd a
@@ -53,17 +53,17 @@ same-fit (x ∷ xs) (y ∷ ys) s entries a =
 
 -- ---- states with alike steps
 
--- the state with other steps
+-- The state with other steps.
 abbrev pub with_steps : CoreState → List Step → CoreState
 with_steps state ys = record state { steps = ys }
 
--- the same tests need no query
+-- The same tests need no query.
 pub same-unasked : (sc : Scenario) (book : BookView) (state : CoreState) (ys : List Step) (t : ClockTest) → AreAlike state.steps ys → settled_unasked sc book state t ≡ settled_unasked sc book (with_steps state ys) t
 same-unasked sc book state ys t a =
     ap (λ (o : Option (List ℕ)). if is_empty (domain_of book t.station) then Some (NoChannel t.station) else (if option_map_or (same_list (tested_set sc book state.clock t.station)) o false then Some Same else None))
     (same-set sc book (opening_state sc) state.steps ys (t.round - 1) t.station a)
 
--- a settled test moves them alike
+-- A settled test moves both states alike.
 pub same-settled : (sc : Scenario) (state : CoreState) (ys : List Step) (t : ClockTest) (shown : Shown) → AreAlike state.steps ys
     → settled sc (with_steps state ys) t shown ≡ with_steps (settled sc state t shown) (ys ++ record { round = t.round; station = t.station; shown = shown } ∷ [])
 same-settled sc state ys t shown a =
@@ -73,14 +73,14 @@ same-settled sc state ys t shown a =
       steps = ys ++ record { round = t.round; station = t.station; shown = shown } ∷ [];
     }) (sym (same-fit state.steps ys t.station [] a))
 
--- and their steps stay alike
+-- Their steps stay alike.
 pub alike-settled : (sc : Scenario) (state : CoreState) (ys : List Step) (t : ClockTest) (shown : Shown) → AreAlike state.steps ys
     → AreAlike (settled sc state t shown).steps (ys ++ record { round = t.round; station = t.station; shown = shown } ∷ [])
 alike-settled sc state ys t shown a =
     let x : Step = record { round = t.round; station = t.station; shown = shown } in
     alike-push state.steps ys x x a (alike-same (x ∷ []))
 
--- two states have one clock and one map
+-- Whether two states have the same clock and the same map.
 pub record HaveMoved (a b : CoreState) : Type 0 where
   pub clock : a.clock ≡ b.clock
   pub map : a.map ≡ b.map

@@ -1,9 +1,9 @@
--- Lines that are taken away from behind.
+-- Lines that are removed from the end.
 use Rattle.std.proofs.Common.{◌≡◌, ℕ, ◌-◌, ◌<◌, List, length, take, drop, sym, ap, ◌∙◌, arith}
 use Rattle.std.proofs.lemmas.List.{length-take-le, take-append-drop, take-append-le}
 use Rattle.rup_check.specs.declared.line.Line.{Line}
 
--- a last line that is taken away from more lines than these changes nothing of them
+-- Removing the last of more than n lines does not change the first n.
 pub take-fewer : (lines : List Line) (n : ℕ) → n < length lines → take n (take (length lines - 1) lines) ≡ take n lines
 take-fewer lines n h =
     let m : ℕ = length lines - 1 in

@@ -1,4 +1,5 @@
--- The first steps of a backed record, one after another: what the clock, the map and the places of the last fits then are.
+-- The first steps of a backed record, one after another: the clock, the map and the places of the last fits after
+-- each.
 use Rattle.std.proofs.Common.{◌≡◌, ◌∙◌, ℕ, zero, suc, ◌+◌, ◌-◌, ◌<◌, ◌≤◌, Bool, true, false, ◌==◌, if◌then◌else◌, List, [], ◌∷◌, ◌++◌, map, take, length, get_or, set, replicate, Option, Some, None, is_some, unwrap_or, refl, sym, ap, subst, arith, add-one, ⊎_elim}
 use Rattle.std.specs.Option.{option_map_or}
 use Rattle.std.proofs.lemmas.Bool.{cases_eq, cond-false, cond-true, eq-eqb, eqb-true, ne_eqb}
@@ -33,7 +34,7 @@ use Rattle.result_text.proofs.StepLemmas.{IsNext, backed-next, carried-through}
 use Rattle.transcript_text.proofs.Writes.{shown-at}
 use Rattle.open_tests.specs.Follow.{IsLeftSo, fit_named}
 
--- a record that has a step was carried through
+-- A record that has a step is of a finished auction.
 pub some-step-done : (sc : Scenario) (book : BookView) (rec : Record) → 1 ≤ length rec.steps → IsBacked sc book rec.order rec → rec.ending ≡ Done
 some-step-done sc book rec some backed = go rec.ending backed.rest
   where
@@ -57,16 +58,17 @@ named-none steps (suc i) some past =
 
 -- ---- the last fits
 
--- For each station's place, the number of the one of the first k steps that showed its last fit; 0 before it had one.
+-- Whether `fits` has, for each station's place, the number of the step of its last fit among the first k; 0 before
+-- its first.
 pub record AreFits (stations : List ℕ) (steps : List Step) (k : ℕ) (fits : List ℕ) : Type 0 where
   pub long : length fits ≡ length stations
   pub each : (i : ℕ) → i < length stations → fit_named steps (get_or fits i 0) ≡ last_fit (take k steps) (get_or stations i 0) []
 
--- the places of the last fits once the step of this number is shown so
+-- The places of the last fits after the step with this number.
 abbrev pub fits_with : List ℕ → ℕ → Bool → ℕ → List ℕ
 fits_with fits place fit number = if fit then set fits place number else fits
 
--- so many zeros
+-- A list of zeros.
 abbrev zeros : ℕ → List ℕ
 zeros n = replicate n 0
 
@@ -85,12 +87,12 @@ first-fits stations steps n same = record {
   each = λ i inside. ap (fit_named steps) (zero-at n i);
 }
 
--- the entries that a step names by its number, from 1
+-- The entries of the step that follows the first k.
 named-here : (steps : List Step) (k : ℕ) (x : Step) → k < length steps → x ≡ get_or steps k x → fit_named steps (k + 1) ≡ unwrap_or (fit_of x.shown) []
 named-here steps k x inside is =
     ap (fit_named steps) (add-one k) ∙ ap (λ o. option_map_or (λ (y : Step). unwrap_or (fit_of y.shown) []) o []) (slice_get-get_or steps k x inside ∙ ap Some (sym is))
 
--- what is named at any place after the step
+-- The entries named at each place after the step.
 named-next : (stations : List ℕ) (steps : List Step) (fits : List ℕ) (k i j : ℕ) (x : Step) → IsStrictlyIncreasing stations → k < length steps → x ≡ get_or steps k x → i < length stations → get_or stations i 0 ≡ x.station → AreFits stations steps k fits → j < length stations →
     fit_named steps (get_or (fits_with fits i (is_some (fit_of x.shown)) (k + 1)) j 0) ≡ (if x.station == get_or stations j 0 then unwrap_or (fit_of x.shown) (last_fit (take k steps) (get_or stations j 0) []) else last_fit (take k steps) (get_or stations j 0) [])
 named-next stations steps fits k i j x up inside is within at are there = go (fit_of x.shown) refl
@@ -112,7 +114,7 @@ named-next stations steps fits k i j x up inside is within at are there = go (fi
         ∙ sym (cond-false (x.station == get_or stations j 0) delta (last_fit (take k steps) (get_or stations j 0) []) (ne_eqb x.station (get_or stations j 0) (λ own. other (one-place stations j i up there within (sym (at ∙ own))))))))
         (cases_eq j i)
 
--- one step more among those that were gone through
+-- The first steps, and one more.
 take-next : (steps : List Step) (k : ℕ) (x : Step) → k < length steps → x ≡ get_or steps k x → take (k + 1) steps ≡ take k steps ++ x ∷ []
 take-next steps k x inside is = take_more steps k x inside ∙ ap (λ y. take k steps ++ y ∷ []) (sym is)
 
@@ -125,7 +127,7 @@ fits-next stations steps fits k i x up inside is within at are = record {
       ∙ (sym (last_fit-push (take k steps) x (get_or stations j 0) []) ∙ ap (λ xs. last_fit xs (get_or stations j 0) []) (sym (take-next steps k x inside is)));
 }
 
--- at the step's own place the entries named are those that it gives the map
+-- At the step's own place, the entries named are those that it gives the map.
 pub named-own : (stations : List ℕ) (steps : List Step) (fits : List ℕ) (k i : ℕ) (x : Step) → IsStrictlyIncreasing stations → k < length steps → x ≡ get_or steps k x → i < length stations → get_or stations i 0 ≡ x.station → AreFits stations steps k fits →
     fit_named steps (get_or (fits_with fits i (is_some (fit_of x.shown)) (k + 1)) i 0) ≡ delta_of (take k steps) x.station x.shown
 named-own stations steps fits k i x up inside is within at are =
@@ -133,14 +135,14 @@ named-own stations steps fits k i x up inside is within at are =
     ∙ (ap (λ s. if x.station == s then unwrap_or (fit_of x.shown) (last_fit (take k steps) s []) else last_fit (take k steps) s []) at
     ∙ cond-true (x.station == x.station) (delta_of (take k steps) x.station x.shown) (last_fit (take k steps) x.station []) (eq-eqb x.station x.station refl))
 
--- ---- what is kept along the steps
+-- ---- the loop invariant
 
--- the state that the first k steps leave
+-- The state after the first k steps.
 abbrev pub state_at : Scenario → Record → List Step → ℕ → CoreState
 state_at sc rec steps k = after_steps sc (after_start sc rec.order rec.start) (take k steps)
 
--- The clock and the map are those that the first k steps leave; the map has a place for each station, and the places of the
--- last fits are those of these steps, which give channels to the scenario's stations alone.
+-- The invariant of the loop: the clock, the map and the places of the last fits are those after the first k steps.
+-- The map has a place for each station, and the steps give channels to the scenario's stations only.
 pub record IsFollowing (sc : Scenario) (rec : Record) (steps : List Step) (k : ℕ) (clock : ClockView) (map : AirMapView) (fits : List ℕ) : Type 0 where
   pub left : IsLeftSo sc (state_at sc rec steps k) clock map
   pub stations : map.stations ≡ facilities sc
@@ -159,12 +161,12 @@ first-following sc rec steps clock map fits n clock_is map_is count zeros = reco
   within = λ f s there. cc;
 }
 
--- One step more, of the station at place i.
+-- The loop's step, of the station at place i.
 module _ (sc : Scenario) (book : BookView) (rec : Record) (steps : List Step) (k i : ℕ) (x : Step) (clock : ClockView) (map : AirMapView) (fits : List ℕ) (ascend : StationsAscend sc) (next : IsNext sc rec steps k x) (shown : IsStepShown sc book (state_at sc rec steps k) x) (inside : k < length steps) (is : x ≡ get_or steps k x) (place : i < length sc.stations) (at : get_or (facilities sc) i 0 ≡ x.station) (now : IsFollowing sc rec steps k clock map fits) where
   abbrev before : CoreState
   before = state_at sc rec steps k
 
-  -- the places of the last fits, and what the map is given by the station's own
+  -- The places of the last fits after the step, and the entries that the map gets.
   abbrev pub fits_then : List ℕ
   fits_then = fits_with fits i (is_some (fit_of x.shown)) (k + 1)
 
@@ -189,7 +191,7 @@ module _ (sc : Scenario) (book : BookView) (rec : Record) (steps : List Step) (k
   gives : GivesWithin sc (delta_of before.steps x.station x.shown)
   gives = step-within sc book before (test_of x) x.shown shown (λ f. subst (λ xs. GivesWithin sc (last_fit xs f [])) (sym steps_are) (now.within f))
 
-  -- the map has a place for each station that it is given a channel of
+  -- The map has a place for each station that it gets a channel for.
   pub given-within : (f : ℕ) → has_station given f ≡ true → is_in map.stations f ≡ true
   given-within f there = subst (λ xs. is_in xs f ≡ true) (sym now.stations) (gives f (subst (λ m. has_station m f ≡ true) given-is there))
 
@@ -231,7 +233,7 @@ module _ (sc : Scenario) (book : BookView) (rec : Record) (steps : List Step) (k
     within = within-then;
   }
 
--- the first step that was not gone through is shown in the state that they leave
+-- The first step that was not replayed is settled in the state after the others.
 pub next-shown : (sc : Scenario) (book : BookView) (rec : Record) (steps : List Step) (k : ℕ) (x : Step) → IsBacked sc book rec.order rec → rec.ending ≡ Done → steps ≡ rec.steps → k < length steps → x ≡ get_or steps k x → IsStepShown sc book (state_at sc rec steps k) x
 next-shown sc book rec steps k x backed done same inside is =
     let carried = carried-through sc book rec backed done in
@@ -240,7 +242,7 @@ next-shown sc book rec steps k x backed done same inside is =
     (subst (IsStepShown sc book (state_at sc rec rec.steps k)) (sym (is ∙ ap (λ (xs : List Step). get_or xs k x) same))
     (shown-at sc book (after_start sc rec.order rec.start) rec.steps k x carried.shown within))
 
--- What is asked of the next step of a backed record, and what it is known to be: it is of the station at place i.
+-- The preconditions of the loop's step for a backed record, whose step is of the station at place i.
 module _ (sc : Scenario) (book : BookView) (rec : Record) (steps : List Step) (k count i : ℕ) (x : Step) (clock : ClockView) (map : AirMapView) (fits : List ℕ) (limits : IsWithinLimits sc) (in_order : IsInOrder book) (backed : IsBacked sc book rec.order rec) (done : rec.ending ≡ Done) (same : steps ≡ rec.steps) (there : count ≤ length rec.steps) (test : k < count) (is : x ≡ get_or steps k x) (place : (i < length sc.stations) × (get_or (facilities sc) i 0 ≡ x.station)) (now : IsFollowing sc rec steps k clock map fits) where
   behind : k < length steps
   behind = let long = ap length same in omega (arith, long, there, test)
@@ -265,7 +267,7 @@ module _ (sc : Scenario) (book : BookView) (rec : Record) (steps : List Step) (k
       (subst (λ (m : AirMapView). IsFollowing sc rec steps (k + 1) (answered_clock sc (test_of x) i (shows_room x.shown) clock) m fits') (sym made)
       (subst (λ (xs : List ℕ). IsFollowing sc rec steps (k + 1) (answered_clock sc (test_of x) i (shows_room x.shown) clock) (record { stations = map.stations; entries = map_after map.entries (get_or (answered_clock sc (test_of x) i (shows_room x.shown) clock).standings i Active) (fit_named steps (get_or (fits_with fits i (is_some (fit_of x.shown)) (k + 1)) i 0)) }) xs) (sym fits_are) following))
 
--- there is a place of a last fit for each station
+-- The list of last fits has a place for each station.
 pub length-with : (sc : Scenario) (rec : Record) (steps : List Step) (k i n : ℕ) (clock : ClockView) (map : AirMapView) (fits fits' : List ℕ) (b : Bool) → fits' ≡ fits_with fits i b n → i < length sc.stations → IsFollowing sc rec steps k clock map fits → i < length fits'
 length-with sc rec steps k i n clock map fits fits' b are place now =
     let count = length-map sc.stations (λ (y : Station). y.id) in

@@ -1,4 +1,4 @@
--- A record of which a test that was left open is settled by a proof from outside.
+-- A record of which an undecided test is settled by a proof from outside is backed.
 use Rattle.std.proofs.Common.{◌≡◌, ℕ, ◌-◌, List, [], map, MatchOption, Option, None, sum_by, refl, sym, ap, subst, ◌∙◌}
 use Rattle.std.specs.Prelude.{⊤}
 use Rattle.pack_defs.specs.declared.scenario.Scenario.{Scenario}
@@ -28,7 +28,7 @@ use Rattle.open_tests.proofs.AlikeLemmas.{HaveMoved}
 use Rattle.open_tests.proofs.SettledLemmas.{RefutesAt, left-at, moved-outside, open-at, refutes-at, some-step}
 use Rattle.open_tests.proofs.ReplacedLemmas.{replaced}
 
--- a record that has a step was carried through
+-- A record that has a step is of a finished auction.
 done-of : (sc : Scenario) (book : BookView) (rec : Record) (ending : Ending) → IsEnded sc book rec.order rec ending → (rec.steps ≡ [] → ⊥) → ending ≡ Done
 done-of sc book rec Done h some = refl
 done-of sc book rec StartRefuted h some = absurd (some h.steps)
@@ -37,7 +37,7 @@ done-of sc book rec StartUndecided h some = absurd (some h.steps)
 has-done : (sc : Scenario) (book : BookView) (rec : Record) (step : ℕ) → IsBacked sc book rec.order rec → IsLeftOpen rec step → rec.ending ≡ Done
 has-done sc book rec step b open_ = done-of sc book rec rec.ending b.rest (some-step rec.steps (step - 1) (open-at rec.steps step open_))
 
--- the first state
+-- The state before the first step.
 abbrev first : Scenario → Record → CoreState
 first sc rec = after_start sc rec.order rec.start
 
@@ -49,7 +49,7 @@ refutes sc book rec step proof b p =
 none-or : (n : ℕ) (o : Option _) (rest : Option _) → o ≡ None → rest ≡ None → step_fault_or n o rest ≡ None
 none-or n o rest e f = rw e f
 
--- its transcript has no fault
+-- The transcript of the new record is valid.
 no-fault : (sc : Scenario) (book : BookView) (rec : Record) (step : ℕ) (proof : OutsideProof) → IsAuction sc book → IsBacked sc book rec.order rec → IsLeftOpen rec step → RefutesStep book rec step proof → not_shown sc book (transcript_for sc book (settled_by rec step proof)) ≡ None
 unfolding not_shown transcript_for
 no-fault sc book rec step proof a b open_ p =
@@ -59,7 +59,7 @@ no-fault sc book rec step proof a b open_ p =
     none-or 0 (start_fault sc book rec.start) (steps_fault sc book 1 (first sc rec) (clock_tests sc rec.order) (transcript_steps sc book (opening_state sc) (shown_outside rec.steps (step - 1) proof))) parts.0
     (replaced sc book 1 (first sc rec) (clock_tests sc rec.order) rec.steps (step - 1) proof (open-at rec.steps step open_) (refutes sc book rec step proof b p) parts.1)
 
--- the record of that transcript is it
+-- The record of that transcript is the new record.
 same-again : (sc : Scenario) (book : BookView) (rec : Record) (step : ℕ) (proof : OutsideProof) → IsAuction sc book → IsBacked sc book rec.order rec → IsLeftOpen rec step → transcript_record sc book (transcript_for sc book (settled_by rec step proof)) ≡ settled_by rec step proof
 unfolding transcript_for
 same-again sc book rec step proof a b open_ =

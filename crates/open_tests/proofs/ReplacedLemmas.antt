@@ -1,4 +1,4 @@
--- A transcript without a fault, of which a step that was left open is shown by a proof from outside, has no fault still.
+-- A valid transcript stays valid if an undecided step is replaced by a proof from outside.
 use Rattle.std.proofs.Common.{◌≡◌, ℕ, zero, suc, ◌+◌, Bool, true, false, if◌then◌else◌, List, [], ◌∷◌, ◌++◌, Option, Some, None, MatchOption, refl, sym, ap, ◌∙◌}
 use Rattle.std.specs.Option.{option_map_or}
 use Rattle.pack_defs.specs.declared.scenario.Scenario.{Scenario}
@@ -23,7 +23,7 @@ use Rattle.open_tests.specs.Settled.{shown_outside}
 use Rattle.open_tests.proofs.AlikeLemmas.{AreAlike, alike-push, alike-same, alike-settled, same-settled, same-unasked, with_steps}
 use Rattle.open_tests.proofs.SettledLemmas.{IsOpenAt, RefutesAt}
 
--- ---- states with alike steps find the same faults
+-- ---- states with alike steps find the same errors
 
 same-fault : (sc : Scenario) (book : BookView) (state : CoreState) (ys : List Step) (w : TranscriptStep) → AreAlike state.steps ys → step_fault sc book state w ≡ step_fault sc book (with_steps state ys) w
 same-fault sc book state ys w a =
@@ -55,7 +55,7 @@ same-faults sc book n state ys ts (w ∷ ws) a =
 both-none : (b : Bool) (n : ℕ) (o : Option Place) (rest : Option NotShown) → b ≡ true → o ≡ None → rest ≡ None → (if b then step_fault_or n o rest else not_shown_at n Order) ≡ None
 both-none b n o rest e f g = rw (e, f) g
 
--- a step that was shown undecided needed a query, and the proof settles it
+-- An undecided step needed a query, and the proof settles it.
 outside-shown : (sc : Scenario) (book : BookView) (state : CoreState) (r s : ℕ) (receipts : List _) (proof : OutsideProof) → IsOutsideProof book (tested_set sc book state.clock s) proof
     → IsStepShown sc book state (record { round = r; station = s; shown = Undecided receipts }) → IsStepShown sc book state (record { round = r; station = s; shown = Outside proof })
 outside-shown sc book state r s receipts proof p h = go (is_empty (domain_of book s)) (is_same sc book state t) h

@@ -1,4 +1,4 @@
--- The rows of a result with one test fewer left open.
+-- The rows of a result with one undecided test fewer.
 use Rattle.std.proofs.Common.{◌≡◌, ℕ, Bool, true, false, not, ◌==◌, ◌&&◌, if◌then◌else◌, List, [], ◌∷◌, map, find, Option, Some, None, option_map, refl, sym, ap, ap₂, ◌∙◌, eqb-true}
 use Rattle.std.specs.List.{cons_option, filter_map}
 use Rattle.std.proofs.lemmas.Bool.{and_parts}
@@ -9,13 +9,13 @@ use Rattle.pack_defs.specs.ClockRule.{ClockState, ClockTest, FrozenAt, OnAirSinc
 use Rattle.pack_defs.specs.ResultRows.{Exit, Frozen, Outcome, ResultRow, Start, Undecided, frozen_row, on_air_row, result_rows, row_from, row_of}
 use Rattle.open_tests.specs.Settled.{decided, decided_row, is_same_test, without_test}
 
--- two tests that are the same are one
+-- Two tests that count as the same are equal.
 same-is : (t u : ClockTest) → is_same_test t u ≡ true → u ≡ t
 same-is t u e =
     let parts = and_parts (u.round == t.round) (u.station == t.station) e in
     ap₂ (λ (r s : ℕ). let v : ClockTest = record { round = r; station = s } in v) (eqb-true u.round t.round parts.0) (eqb-true u.station t.station parts.1)
 
--- a test is listed without one where it is listed and isn't that one
+-- A test is in the list without `t` exactly if it is in the list and is not `t`.
 pub listed-without : (t u : ClockTest) (tests : List ClockTest) → is_listed (without_test t tests) u ≡ (not (is_same_test t u) && is_listed tests u)
 listed-without t u tests =
     any-filter_same (λ (v : ClockTest). is_same_test u v) (λ (v : ClockTest). not (is_same_test t v)) (not (is_same_test t u))
@@ -29,7 +29,7 @@ outcome-is true false = refl
 outcome-is false true = refl
 outcome-is false false = refl
 
--- a row of which the outcome alone is chosen
+-- A row of which only the outcome is chosen.
 chosen-row : (b : Bool) (row : ResultRow) (o : Outcome) → (if b then record row { outcome = o } else row) ≡ record row { outcome = if b then o else row.outcome }
 chosen-row true row o = refl
 chosen-row false row o = refl

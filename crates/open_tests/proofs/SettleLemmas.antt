@@ -1,4 +1,4 @@
--- What the settling of a step asks, and what it leaves.
+-- What settling a step needs, and what it leads to.
 use Rattle.std.proofs.Common.{◌≡◌, ◌≤◌, ◌-◌, ◌∙◌, ℕ, zero, suc, true, if◌then◌else◌, List, length, Option, Some, None, is_none, option_map, refl, sym, ap, subst, arith}
 use Rattle.std.specs.Prelude.{MatchOption, Result, Ok, Err, []}
 use Rattle.std.specs.Option.{option_map_or}
@@ -30,7 +30,7 @@ use Rattle.open_tests.specs.declared.settle.SettleErr.TheVariants.{NoRefutation}
 
 -- ---- the step
 
--- a step that there is has a number from 1 to how many there are
+-- A step that exists has a number from 1 to the number of steps.
 pub step-there : (steps : List Step) (step : ℕ) (x : Step) → step_numbered steps step ≡ Some x → (1 ≤ step) × (step ≤ length steps)
 step-there steps zero x e = cc
 step-there steps (suc i) x e = let within = slice_get_within steps i x e in (omega arith, omega arith)
@@ -54,12 +54,12 @@ proof-refutes book rec step task proof e h = subst (λ o. MatchOption o ⊥ (λ 
 
 -- ---- the log
 
--- the log that was read, over the clauses of the task's set
+-- The log that was read is over the clauses of the task's set.
 read-so : (book : BookView) (rec : Record) (step : ℕ) (task : Task) (text : List ℕ) (r : Result Log LratErr) → task_at book rec step ≡ Some task → log_of text (clauses_in book task.set) ≡ r → settled_text book rec step text ≡ settled_log book rec step r
 unfolding settled_text
 read-so book rec step task text r e is = ap (settled_log book rec step) (ap (λ s. log_of text (clauses_in book s)) (task-set book rec step task e) ∙ is)
 
--- where the lines refute the set
+-- The lines refute the set.
 pub settled-so : (book : BookView) (rec : Record) (step : ℕ) (task : Task) (text : List ℕ) (log : Log) → task_at book rec step ≡ Some task → log_of text (clauses_in book task.set) ≡ Ok log
     → IsOutsideProof book task.set (cut_proof log) → settled_text book rec step text ≡ Ok (settled_by rec step (cut_proof log))
 settled-so book rec step task text log e is h =
@@ -68,7 +68,7 @@ settled-so book rec step task text log e is h =
     ap (λ s. outside_fault book s (up_to_empty log.lines)) (task-set book rec step task e) ∙ means-outside book task.set proof h in
     read-so book rec step task text (Ok log) e is ∙ ap (λ o. if is_none o then Ok (settled_by rec step proof) else Err NoRefutation) none
 
--- where they don't, or memory ran out
+-- The lines do not refute the set, or memory ran out.
 pub refused-so : (book : BookView) (rec : Record) (step : ℕ) (task : Task) (text : List ℕ) (log : Log) (why : CertifyWhy) → task_at book rec step ≡ Some task → log_of text (clauses_in book task.set) ≡ Ok log
     → Tells why (outside_fault book task.set (up_to_empty log.lines)) → SettleFails (refused why) (settled_text book rec step text)
 refused-so book rec step task text log (Rejected place) e is h =
@@ -78,7 +78,7 @@ refused-so book rec step task text log (Rejected place) e is h =
     read-so book rec step task text (Ok log) e is ∙ ap (λ o. if is_none o then Ok (settled_by rec step proof) else Err NoRefutation) some
 refused-so book rec step task text log NoSpace e is h = tt
 
--- where the text is none of a log
+-- The text is not a log.
 pub unread-so : (book : BookView) (rec : Record) (step : ℕ) (task : Task) (text : List ℕ) (why : LratErr) → task_at book rec step ≡ Some task → NotRead why (log_of text (clauses_in book task.set)) → SettleFails (unread why) (settled_text book rec step text)
 unread-so book rec step task text Truncated e is = read-so book rec step task text (Err Truncated) e is
 unread-so book rec step task text (BadLine n) e is = read-so book rec step task text (Err (BadLine n)) e is
@@ -87,7 +87,7 @@ unread-so book rec step task text NoRoom e is = tt
 
 -- ---- what a text settles
 
--- a proof that refutes the set settles
+-- A proof that refutes the set settles the step.
 settled-or : (book : BookView) (rec : Record) (step : ℕ) (proof : OutsideProof) → IsOutsideProof book (set_of_step book rec step) proof → settled_or book rec step proof ≡ Ok (settled_by rec step proof)
 settled-or book rec step proof h =
     ap (λ o. if is_none o then Ok (settled_by rec step proof) else Err NoRefutation) (means-outside book (set_of_step book rec step) proof h)
@@ -96,7 +96,7 @@ pub where-settled : (book : BookView) (rec : Record) (step : ℕ) (text : List �
 unfolding settled_text
 where-settled book rec step text log is h = ap (settled_log book rec step) is ∙ settled-or book rec step (cut_proof log) h
 
--- and nothing else does
+-- Only such a proof settles the step.
 or-settled : (book : BookView) (rec new : Record) (step : ℕ) (proof : OutsideProof) → settled_or book rec step proof ≡ Ok new → IsOutsideProof book (set_of_step book rec step) proof × (new ≡ settled_by rec step proof)
 or-settled book rec new step proof e = go (outside_fault book (set_of_step book rec step) proof.log.lines) refl e
   where
@@ -104,7 +104,7 @@ or-settled book rec new step proof e = go (outside_fault book (set_of_step book 
     go None is f = (outside-means book (set_of_step book rec step) proof is, cc)
     go (Some place) is f = cc
 
--- what a text that settled says
+-- What is known of a text that settled a step.
 pub record IsSaid (book : BookView) (rec new : Record) (step : ℕ) (text : List ℕ) : Type 0 where
   pub log : Log
   pub read : log_of text (clauses_in book (set_of_step book rec step)) ≡ Ok log
@@ -119,7 +119,7 @@ settled-said book rec new step text e = go (log_of text (clauses_in book (set_of
     go (Ok log) is f = let both = or-settled book rec new step (cut_proof log) f in record { log = log; read = is; refutes = both.0; same = both.1 }
     go (Err why) is f = cc
 
--- where the step is there, its set is that of its query
+-- If the step exists, its set is that of its query.
 pub said-refutes : (book : BookView) (rec : Record) (step : ℕ) (proof : OutsideProof) (x : Step) → step_numbered rec.steps step ≡ Some x → IsOutsideProof book (set_of_step book rec step) proof → RefutesStep book rec step proof
 said-refutes book rec step proof x there h = go (step_numbered rec.steps step) there h
   where

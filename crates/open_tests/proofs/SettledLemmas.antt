@@ -1,4 +1,4 @@
--- A step that was left open, shown by a proof from outside.
+-- An undecided step that is replaced by a proof from outside.
 use Rattle.std.proofs.Common.{◌≡◌, ℕ, zero, suc, ◌-◌, Bool, true, false, ◌==◌, if◌then◌else◌, List, [], ◌∷◌, ◌++◌, map, take, get_or, set, Option, Some, None, option_map, MatchOption, refl, sym, ap, subst, ◌∙◌, arith, eq-eqb}
 use Rattle.std.specs.Prelude.{⊤, slice_get}
 use Rattle.std.specs.List.{cons_option}
@@ -21,13 +21,13 @@ use Rattle.open_tests.proofs.AlikeLemmas.{HaveMoved, alike-push, alike-same, sam
 
 -- ---- which step
 
--- the step at this place, from 0, is shown undecided
+-- Whether the step at this place (from 0) is undecided.
 abbrev pub IsOpenAt : List Step → ℕ → Type 0
 IsOpenAt [] i = ⊥
 IsOpenAt (x ∷ xs) zero = is_undecided x.shown ≡ true
 IsOpenAt (x ∷ xs) (suc i) = IsOpenAt xs i
 
--- from this state on, the proof refutes what that step's test asks about
+-- Whether the proof refutes what that step's test asks about, from this state on.
 abbrev pub RefutesAt : Scenario → BookView → CoreState → List Step → ℕ → OutsideProof → Type 0
 RefutesAt sc book state [] i proof = ⊥
 RefutesAt sc book state (x ∷ xs) zero proof = IsOutsideProof book (tested_set sc book state.clock x.station) proof
@@ -63,7 +63,7 @@ pub some-step : (xs : List Step) (i : ℕ) → IsOpenAt xs i → xs ≡ [] → �
 some-step [] i h e = h
 some-step (x ∷ xs) i h e = cc
 
--- ---- what it leaves
+-- ---- the state after it
 
 moved-here : (sc : Scenario) (state : CoreState) (r s : ℕ) (shown : Shown) (xs : List Step) (proof : OutsideProof) → is_undecided shown ≡ true
     → HaveMoved (after_steps sc (settled sc state (record { round = r; station = s }) shown) xs) (after_steps sc (settled sc state (record { round = r; station = s }) (Outside proof)) xs)
@@ -78,13 +78,13 @@ moved-here sc state r s (Undecided receipts) xs proof e =
     let y : Step = record { round = r; station = s; shown = Outside proof } in
     same-moves sc (settled sc state (test_of x) x.shown) (state.steps ++ y ∷ []) xs (alike-push state.steps state.steps x y (alike-same state.steps) (refl, refl, refl, tt))
 
--- the clock and the map stay
+-- The clock and the map stay.
 pub moved-outside : (sc : Scenario) (state : CoreState) (xs : List Step) (i : ℕ) (proof : OutsideProof) → IsOpenAt xs i → HaveMoved (after_steps sc state xs) (after_steps sc state (shown_outside xs i proof))
 moved-outside sc state [] i proof h = absurd h
 moved-outside sc state (x ∷ xs) zero proof h = moved-here sc state x.round x.station x.shown xs proof h
 moved-outside sc state (x ∷ xs) (suc i) proof h = moved-outside sc (settled sc state (test_of x) x.shown) xs i proof h
 
--- a list of steps in which that one was set is it
+-- The list with the step replaced is the list in which it was set.
 set-outside : (xs : List Step) (i : ℕ) (x : Step) (proof : OutsideProof) → IsOpenAt xs i → x ≡ get_or xs i x → set xs i (record { round = x.round; station = x.station; shown = Outside proof }) ≡ shown_outside xs i proof
 set-outside [] i x proof h e = absurd h
 set-outside (y ∷ ys) zero x proof h e = ap (λ (z : Step). record z { shown = Outside proof } ∷ ys) e
@@ -94,7 +94,7 @@ pub set-is : (items steps new : List Step) (i : ℕ) (x : Step) (proof : Outside
 set-is items steps new i x proof h same is e =
     e ∙ set-outside items i x proof (subst (λ (ys : List Step). IsOpenAt ys i) (sym same) h) is ∙ ap (λ (ys : List Step). shown_outside ys i proof) same
 
--- ---- which tests are left open
+-- ---- which tests stay undecided
 
 itself : (t : ClockTest) → is_same_test t t ≡ true
 itself t = and_from (t.round == t.round) (t.station == t.station) (eq-eqb t.round t.round refl) (eq-eqb t.station t.station refl)
@@ -108,14 +108,14 @@ without-first t u us e = rw e refl
 without-later : (t u : ClockTest) (us : List ClockTest) → is_same_test t u ≡ false → without_test t (u ∷ us) ≡ u ∷ without_test t us
 without-later t u us e = rw e refl
 
--- a test that is not among these takes none of them away
+-- A test that is not in a list removes nothing from it.
 without-none : (t : ClockTest) (us : List ClockTest) → is_listed us t ≡ false → without_test t us ≡ us
 without-none t [] e = refl
 without-none t (u ∷ us) e =
     let parts = or_parts (is_same_test t u) (is_listed us t) e in
     without-later t u us parts.0 ∙ ap (λ (vs : List ClockTest). u ∷ vs) (without-none t us parts.1)
 
--- a step's test is another than one that is not among these
+-- A step of the list has another test than one that is not in it.
 not-listed-get : (xs : List Step) (i : ℕ) (y : Step) (t : ClockTest) → slice_get xs i ≡ Some y → is_listed (map test_of xs) t ≡ false → is_same_test t (test_of y) ≡ false
 not-listed-get [] i y t is e = absurd cc
 not-listed-get (x ∷ xs) zero y t is e =
@@ -124,7 +124,7 @@ not-listed-get (x ∷ xs) zero y t is e =
 not-listed-get (x ∷ xs) (suc i) y t is e =
     not-listed-get xs i y t is (or_parts (is_same_test t (test_of x)) (is_listed (map test_of xs) t) e).1
 
--- the first of the tests, if it was left open, where it is another one
+-- The first of the tests is kept if it is another one.
 option-later : (b : Bool) (t u : ClockTest) (us vs : List ClockTest) → is_same_test t u ≡ false → vs ≡ without_test t us → cons_option (if b then Some u else None) vs ≡ without_test t (cons_option (if b then Some u else None) us)
 option-later true t u us vs e same = ap (λ (ws : List ClockTest). u ∷ ws) same ∙ sym (without-later t u us e)
 option-later false t u us vs e same = same

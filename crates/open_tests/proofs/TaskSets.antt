@@ -8,7 +8,7 @@ use Rattle.auction_core.specs.State.{restricted}
 use Rattle.auction_core.proofs.Merged.{restricted-ascending}
 use Rattle.open_tests.specs.Follow.{entries_of_stations, entry_before}
 
--- a map whose stations are all above this one has no channel of it
+-- A map whose stations are all above this one has no channel for it.
 none-below : (s : ℕ) (es : List (ℕ × ℕ)) → ((y : ℕ) → is_in (map (λ e. e.0) es) y ≡ true → s < y) → channel_of s es ≡ None
 none-below s [] above = refl
 none-below s (e ∷ es) above =
@@ -16,7 +16,7 @@ none-below s (e ∷ es) above =
     cond-false (e.0 == s) (Some e.1) (channel_of s es) (ne_eqb e.0 s (λ same. omega (arith, less, same)))
     ∙ none-below s es (λ y there. above y (or_right (e.0 == y) (is_in (map (λ e. e.0) es) y) there))
 
--- an entry of another station
+-- An entry of a station outside the set.
 skipped : (e : ℕ × ℕ) (es : List (ℕ × ℕ)) (set : List ℕ) → is_in set e.0 ≡ false → entries_of_stations (e ∷ es) set ≡ entries_of_stations es set
 skipped e es [] out = refl
 skipped e es (s ∷ ss) out =
@@ -25,7 +25,7 @@ skipped e es (s ∷ ss) out =
     ap (λ o. entry_before s o (entries_of_stations (e ∷ es) ss)) (cond-false (e.0 == s) (Some e.1) (channel_of s es) other)
     ∙ ap (entry_before s (channel_of s es)) (skipped e es ss rest)
 
--- the first entry, where its station is in the set
+-- The first entry, if its station is in the set.
 first-in : (e : ℕ × ℕ) (es : List (ℕ × ℕ)) (set : List ℕ) → IsAscending (e ∷ es) → is_ascending set ≡ true → is_in set e.0 ≡ true → entries_of_stations (e ∷ es) set ≡ e ∷ entries_of_stations es set
 first-in e es [] up rises there = cc
 first-in e es (s ∷ ss) up rises there =
@@ -64,6 +64,6 @@ on-set (e ∷ es) set up rises =
       | inr out ↦ skipped e es set out ∙ (rest ∙ sym (cond-false (is_in set e.0) (e ∷ restricted es set) (restricted es set) out))
     ]
 
--- and they are a map
+-- The entries are a map.
 pub on-set-ascends : (es : List (ℕ × ℕ)) (set : List ℕ) → IsAscending es → is_ascending set ≡ true → IsAscending (entries_of_stations es set)
 on-set-ascends es set up rises = subst IsAscending (sym (on-set es set up rises)) (restricted-ascending es set up)

@@ -1,6 +1,6 @@
--- The packing formula of a step's test, and what the text of a log from outside makes of a record. The formula is the clause form
--- of the SATFC papers as DIMACS CNF, the log one of LRAT; that a log is cut at its first empty line, and may have at most
--- 1,000,000 lines, is this project's own.
+-- The packing formula of a step's test, and the record that the text of a log from outside leads to. The formula is
+-- the clause form of SATFC (Newman, Fréchette, Leyton-Brown 2017) as DIMACS CNF, and the log is one of LRAT
+-- (Cruz-Filipe et al. 2017). The cut at the first empty line and the limit of 1,000,000 lines are this project's own.
 use Rattle.std.specs.Prelude.{ℕ, ◌≡◌, if◌then◌else◌, List, [], is_none, Result, Ok, Err}
 use Rattle.std.specs.Option.{option_map_or}
 use Rattle.pack_defs.specs.Book.{BookView}
@@ -23,48 +23,49 @@ use Rattle.open_tests.specs.Settled.{settled_by}
 use Rattle.open_tests.specs.declared.settle.SettleErr.{SettleErr}
 use Rattle.open_tests.specs.declared.settle.SettleErr.TheVariants.{Unread, NoRefutation, NoMemory}
 
--- the stations that the step of this number asked about
+-- The stations that the step with this number asked about.
 abbrev pub set_of_step : BookView → Record → ℕ → List ℕ
 set_of_step book rec step = option_map_or (λ task. task.set) (task_at book rec step) []
 
--- the text of their packing formula
+-- The text of their packing formula.
 abbrev pub formula_text : BookView → Record → ℕ → List ℕ
 formula_text book rec step =
     let set = set_of_step book rec step in
     dimacs_text (record { vars = variables_in book set; list = packing_formula book set })
 
--- a log up to its first empty line, as a proof from outside
+-- A log up to its first empty line, as a proof from outside.
 abbrev pub cut_proof : Log → OutsideProof
 cut_proof log = record { log = record { lines = up_to_empty log.lines } }
 
--- the record, its step of this number shown by this proof, where it refutes the step's set
+-- The record with the step with this number settled by this proof, if the proof refutes the step's set.
 abbrev pub settled_or : BookView → Record → ℕ → OutsideProof → Result Record SettleErr
 settled_or book rec step proof =
     if is_none (outside_fault book (set_of_step book rec step) proof.log.lines) then Ok (settled_by rec step proof) else Err NoRefutation
 
--- by a log, if it was read: by its lines up to the first empty one
+-- The record with the step with this number settled by a log that was read, cut at its first empty line; or why the
+-- log was not read.
 abbrev pub settled_log : BookView → Record → ℕ → Result Log LratErr → Result Record SettleErr
 settled_log book rec step (Err why) = Err (Unread why)
 settled_log book rec step (Ok log) = settled_or book rec step (cut_proof log)
 
--- The record, its step of this number settled by the log that this text says over the clauses of the step's set; else why not:
--- the text is none of a log, or the log doesn't refute that set.
+-- The record with the step with this number settled by the log that this text spells over the clauses of the step's
+-- set. Otherwise why the text does not settle the step: it is not a log, or the log does not refute the set.
 unfoldable pub settled_text : BookView → Record → ℕ → List ℕ → Result Record SettleErr
 settled_text book rec step text = settled_log book rec step (log_of text (clauses_in book (set_of_step book rec step)))
 
--- what a text that was not read as a log comes to
+-- The error for a text that could not be read as a log.
 abbrev pub unread : LratErr → SettleErr
 unread lrat.Truncated = Unread lrat.Truncated
 unread (lrat.BadLine n) = Unread (lrat.BadLine n)
 unread (lrat.RatStep n) = Unread (lrat.RatStep n)
 unread lrat.NoMemory = NoMemory
 
--- what a log that was not let through comes to
+-- The error for a log that was rejected.
 abbrev pub refused : CertifyWhy → SettleErr
 refused (Rejected place) = NoRefutation
 refused certify.NoMemory = NoMemory
 
--- the error is what the definition gives, unless memory ran out
+-- Whether settling fails with this error; true for `NoMemory`, which the definitions do not speak of.
 abbrev pub SettleFails : SettleErr → Result Record SettleErr → Type 0
 SettleFails (Unread why) wanted = wanted ≡ Err (Unread why)
 SettleFails NoRefutation wanted = wanted ≡ Err NoRefutation

@@ -1,4 +1,4 @@
-//! A log cut after its first empty line.
+//! Cuts a log after its first empty line, as checkers of LRAT do.
 
 ghost use Rattle.std.specs.Prelude.{◌≡◌, take};
 ghost use Rattle.open_tests.specs.Cut.{up_to_empty};
@@ -6,8 +6,8 @@ ghost use Rattle.open_tests.specs.Cut.{up_to_empty};
 use rup_check::line::Log;
 use rup_check::lines::Lines;
 
-/// The log up to its first empty line, which ends a refutation; the whole log where no line is empty. It takes no memory, and
-/// no line is copied.
+/// Returns the log up to its first empty line, which ends a refutation, or the complete log if no line is empty.
+/// Drops the lines after it; allocates and copies nothing.
 pub fn up_to_empty(log: Log) -> Log
     ensures { result.lines ≡ up_to_empty log.lines }
 {
@@ -19,7 +19,7 @@ pub fn up_to_empty(log: Log) -> Log
     Log { lines }
 }
 
-// How many lines there are up to the first empty one; all where none is empty.
+// Returns how many lines the log has up to its first empty one, or all of them if none is empty.
 fn kept_count(lines: &Lines) -> usize
     ensures { take result lines.now ≡ up_to_empty lines.now }
 {

@@ -1,4 +1,5 @@
-//! The first steps of a record, gone through by reference beside a clock and a map of their own.
+//! Replays the first steps of a record on a clock and a channel map, so that the query of the next step can be found.
+//! The record is only borrowed.
 
 ghost use Rattle.std.specs.Prelude.{◌≡◌, ◌<◌, ◌≤◌, ℕ, [], IfOk, if◌then◌else◌, is_some, length, map, option_map, slice_set, take, true, unwrap_or};
 ghost use Rattle.pack_defs.specs.ChannelMap.{overlaid};
@@ -19,14 +20,14 @@ use pack_defs::channel_map::ChannelMap;
 use pack_defs::scenario::Scenario;
 use std::alloc::{AllocError as NoMemory, Global};
 
-/// Where the first steps of a record leave the clock and the channel map.
+/// The clock and the channel map after the first steps of a record.
 #[derive(Debug, Drop)]
 pub(crate) struct Left {
     pub(crate) clock: Clock,
     pub(crate) map: AirMap,
 }
 
-// The channels that it is shown by, if it is a fit.
+// Returns the channels of a fit, or `None` if the test was settled otherwise.
 fn fit_of(shown: &Shown) -> Option<&ChannelMap>
     ensures { option_map (λ m. m.now) result ≡ fit_of shown.now }
 {
@@ -36,7 +37,7 @@ fn fit_of(shown: &Shown) -> Option<&ChannelMap>
     }
 }
 
-// The channels that the step of this number, from 1, is shown by, if it is a fit.
+// Returns the channels of the fit of step `number`, counted from 1, or `None` if the step is no fit.
 fn fit_named(steps: &[Step], number: usize) -> Option<&ChannelMap>
     ensures { unwrap_or (option_map (λ m. m.now) result) [] ≡ fit_named steps.now number }
 {
@@ -49,7 +50,7 @@ fn fit_named(steps: &[Step], number: usize) -> Option<&ChannelMap>
     fit_of(&step.shown)
 }
 
-// Where the step of this number is shown by a fit, it is the last of the station at this place.
+// Notes step `number` as the last fit of the station at this place, if the step is a fit.
 fn note_fit(fits: &mut Vec<usize>, place: usize, shown: &Shown, number: usize)
     requires { place < length fits.old.items }
     ensures { fits.new.items ≡ (if is_some (fit_of shown.now) then slice_set fits.old.items place number else fits.old.items) }
@@ -59,7 +60,7 @@ fn note_fit(fits: &mut Vec<usize>, place: usize, shown: &Shown, number: usize)
     }
 }
 
-// The map takes the channels of a station's last fit, that of the step of this number, where the station stands on air.
+// Gives the map the channels of a station's last fit, that of step `number`, if the station is on air.
 fn take_if(map: &mut AirMap, steps: &[Step], number: usize, standing: &Standing)
     requires { (f : ℕ) → has_station (fit_named steps.now number) f ≡ true → is_in map.old.stations f ≡ true }
     ensures { map.new ≡ record { stations = map.old.stations; entries = map_after map.old.entries standing.now (fit_named steps.now number) } }
@@ -72,7 +73,7 @@ fn take_if(map: &mut AirMap, steps: &[Step], number: usize, standing: &Standing)
     }
 }
 
-// The map once the start is shown so.
+// Returns the map after the start.
 fn start_map(alloc: Global, sc: &Scenario, start: &Shown) -> Result<AirMap, NoMemory>
     requires ascend { StationsAscend sc.now }
     requires within { GivesWithin sc.now (start_delta start.now) }
@@ -85,9 +86,9 @@ fn start_map(alloc: Global, sc: &Scenario, start: &Shown) -> Result<AirMap, NoMe
     Ok(map)
 }
 
-/// Where the start and so many first steps of a record leave the clock and the map. Each step costs a search by halves for
-/// its station, and one for each channel that it gives the map. Only the clauses speak of the book. The only error is want
-/// of memory.
+/// Returns the clock and the map after the start and the first `count` steps of a record. Each step costs a binary
+/// search for its station, and one for each channel that it gives to the map. The book is for the contract only.
+/// Fails only if memory runs out.
 pub(crate) fn left_after(
     alloc: Global,
     rec: &Record,
@@ -107,7 +108,7 @@ pub(crate) fn left_after(
     let prices = schedule(alloc, sc)?;
     let mut clock = Clock::open(alloc, sc)?;
     let mut map = start_map(alloc, sc, &rec.start)?;
-    // For each station's place the number of the step that told its last fit, from 1; 0 before its first.
+    // For each station's place, the number (from 1) of the step of its last fit, or 0 before its first.
     let mut fits = vec![in alloc; 0; stations.len()]?;
     for k in 0..count {
         let step = &steps[k];

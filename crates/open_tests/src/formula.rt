@@ -1,4 +1,4 @@
-//! The packing formula of a step's test, as a text for a prover outside.
+//! Writes the packing formula of a step's test, for a prover outside.
 
 ghost use Rattle.std.specs.Prelude.{◌≡◌, ◌≤◌, IfOk, length};
 ghost use Rattle.pack_defs.specs.Scenario.{IsWithinLimits};
@@ -12,8 +12,8 @@ use lrat_text::write::write_dimacs;
 use pack_defs::book::Book;
 use std::alloc::{AllocError as NoMemory, Global};
 
-/// The packing formula of the stations that the step of this number, from 1, asked about, as a text in DIMACS CNF. It has a model
-/// exactly where they fit. The only error is want of memory.
+/// Returns the packing formula of the stations that step `step`, counted from 1, asked about, as DIMACS CNF. The
+/// formula has a model exactly if the stations fit. Fails only if memory runs out.
 pub fn formula_of_step(
     alloc: Global,
     rec: &Record,

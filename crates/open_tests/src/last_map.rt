@@ -1,4 +1,4 @@
-//! The map on the stations of a set.
+//! Restricts a channel map to the stations of a set.
 
 ghost use Rattle.std.specs.Prelude.{◌≡◌, IfOk, IsTrue};
 ghost use Rattle.pack_defs.specs.ChannelMap.{IsAscending};
@@ -10,7 +10,7 @@ use auction_core::air_map::AirMap;
 use pack_defs::channel_map::ChannelMap;
 use std::alloc::{AllocError as NoMemory, Global};
 
-/// The map on the stations of a set. It is a search by halves for each. The only error is want of memory.
+/// Returns the map on the stations of a set. Costs a binary search for each station. Fails only if memory runs out.
 pub(crate) fn map_on(alloc: Global, map: &AirMap, set: &[u32]) -> Result<ChannelMap, NoMemory>
     requires rises { IsAscending map.now.entries }
     requires ascends { IsTrue (is_ascending set.now) }
@@ -20,7 +20,7 @@ pub(crate) fn map_on(alloc: Global, map: &AirMap, set: &[u32]) -> Result<Channel
     ChannelMap::of(alloc, &entries)
 }
 
-// The entries of those stations of a set that have a channel, in the set's order. It is a search by halves for each.
+// Returns the entries of the set's stations that have a channel, in the set's order.
 fn entries_on(alloc: Global, map: &AirMap, set: &[u32]) -> Result<Vec<(u32, u8)>, NoMemory>
     ensures { IfOk result (λ entries. entries.items ≡ entries_of_stations map.now.entries set.now) }
 {

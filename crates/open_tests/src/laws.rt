@@ -1,4 +1,4 @@
-//! What a proof from outside changes of a record, and of the auction's result: nothing but that its test was left open.
+//! Laws of settling by a proof from outside: in the record and in the result only the settled test changes.
 
 ghost use Rattle.std.specs.Prelude.{◌≡◌, ℕ, List, MatchOption, Ok, ⊤, map};
 ghost use Rattle.pack_defs.specs.Book.{BookView};
@@ -18,21 +18,22 @@ ghost use Rattle.open_tests.specs.Queries.{step_numbered};
 ghost use Rattle.open_tests.specs.Settled.{IsLeftOpen, RefutesStep, decided_row, settled_by, without_test};
 ghost use Rattle.open_tests.specs.Settling.{cut_proof, set_of_step, settled_text};
 
-/// A record of which an undecided test is settled by a proof that refutes its set is backed, leaves the others open, and the
-/// clock rule with these left open comes to the same state as before.
+/// If a proof from outside refutes the set of an undecided test, the record that has it for that test is backed. The
+/// other undecided tests stay undecided, and the clock rule with those comes to the same state as before.
 pub fn settled_by_a_proof()
     ensures backed { (sc : Scenario) (book : BookView) (rec : Record) (step : ℕ) (proof : OutsideProof) → IsAuction sc book → IsBacked sc book rec.order rec → IsLeftOpen rec step → RefutesStep book rec step proof → IsBacked sc book rec.order (settled_by rec step proof) }
     ensures left { (sc : Scenario) (book : BookView) (rec : Record) (step : ℕ) (proof : OutsideProof) → IsAuction sc book → IsBacked sc book rec.order rec → IsLeftOpen rec step → MatchOption (step_numbered rec.steps step) ⊤ (λ x. undecided_of (settled_by rec step proof).steps ≡ without_test (test_of x) (undecided_of rec.steps)) }
     ensures clock { (sc : Scenario) (book : BookView) (rec : Record) (step : ℕ) (proof : OutsideProof) → IsAuction sc book → IsBacked sc book rec.order rec → IsLeftOpen rec step → RefutesStep book rec step proof → clock_rule sc book rec.order (undecided_of (settled_by rec step proof).steps) ≡ clock_rule sc book rec.order (undecided_of rec.steps) }
 {}
 
-/// The rows of a result with one test fewer left open are the same rows, with that test's undecided made frozen.
+/// The result with one undecided test fewer has the same rows, except that the test's row says frozen instead of
+/// undecided.
 pub fn one_row_is_decided()
     ensures { (sc : Scenario) (state : ClockState) (tests : List ClockTest) (t : ClockTest) → result_rows sc state (without_test t tests) ≡ map (decided_row t) (result_rows sc state tests) }
 {}
 
-/// A text settles a step exactly where it says a log over the clauses of the step's set whose lines up to the first empty one are a
-/// proof from outside that the set doesn't fit; and then the record is the old one with the step shown by that proof.
+/// A text that spells a log over the clauses of the step's set settles the step exactly if its lines up to the first
+/// empty one refute the set. The new record is the old one with that proof at the step.
 pub fn what_settles()
     ensures settles { (book : BookView) (rec : Record) (step : ℕ) (text : List ℕ) (log : Log) → log_of text (clauses_in book (set_of_step book rec step)) ≡ Ok log → IsOutsideProof book (set_of_step book rec step) (cut_proof log) → settled_text book rec step text ≡ Ok (settled_by rec step (cut_proof log)) }
     ensures settled { (book : BookView) (rec new : Record) (step : ℕ) (text : List ℕ) → settled_text book rec step text ≡ Ok new → (log : Log) × (log_of text (clauses_in book (set_of_step book rec step)) ≡ Ok log) × IsOutsideProof book (set_of_step book rec step) (cut_proof log) × (new ≡ settled_by rec step (cut_proof log)) }

@@ -1,8 +1,20 @@
-//! The tests that a record leaves open: the query of a step, and the record with such a test settled by a proof from outside.
-//! It stands on the records of `auction_core` and the check of proofs of `cert_types`; nothing of a solver and no file is
-//! known here. `task` finds a step's query again: `follow` goes through the steps before it, `queries` counts their queries,
-//! and `last_map` cuts the map to its set; `formula` writes the clauses of that set. `cut` ends a log at its first empty line,
-//! `replace` puts a proof into a record, `settle` does both with the text of a log, and `laws` says what that changes.
+//! The undecided tests of a record. Finds the query of a step, writes its packing formula, and settles such a test by
+//! a proof from outside.
+//!
+//! The crate uses the records of `auction_core` and the proof check of `cert_types`. It knows no solver and opens no
+//! file.
+//!
+//! Modules, in reading order:
+//!
+//! - `task`: finds the query of a step again.
+//! - `follow`: replays the steps before it on a clock and a channel map.
+//! - `queries`: counts the queries of those steps.
+//! - `last_map`: restricts the map to the query's set.
+//! - `formula`: writes the packing formula of a step.
+//! - `cut`: ends a log at its first empty line.
+//! - `replace`: puts a proof into a record.
+//! - `settle`: settles a step by the text of a log.
+//! - `laws`: what a proof from outside changes.
 #![tactic(auto)]
 
 pub mod cut;

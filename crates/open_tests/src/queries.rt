@@ -1,11 +1,11 @@
-//! How many queries the first steps of a record took.
+//! Counts the queries that the first steps of a record took, which numbers the query after them.
 
 ghost use Rattle.std.specs.Prelude.{◌≡◌, ◌≤◌, ◌+◌, count_by, length, take};
 ghost use Rattle.auction_core.specs.Prefix.{queries_taken, took_query};
 
 use auction_core::record::{Shown, Step};
 
-// Whether it took a query to show this.
+// Whether a test settled so took a query.
 fn took_query(shown: &Shown) -> bool
     ensures { result ≡ took_query shown.now }
 {
@@ -16,7 +16,7 @@ fn took_query(shown: &Shown) -> bool
     }
 }
 
-// How many of the first so many steps took one.
+// Returns how many of the first `count` steps took a query.
 fn queries_among(steps: &[Step], count: usize) -> usize
     requires { count ≤ length steps.now }
     ensures queries { result ≡ count_by (λ x. took_query x.shown) (take count steps.now) }
@@ -31,7 +31,7 @@ fn queries_among(steps: &[Step], count: usize) -> usize
     queries
 }
 
-/// How many queries the start and so many first steps took. It is one pass over these steps.
+/// Returns how many queries the start and the first `count` steps took. Makes one pass over these steps.
 pub(crate) fn queries_taken(start: &Shown, steps: &[Step], count: usize) -> u64
     requires { count ≤ length steps.now }
     ensures queries { result ≡ queries_taken start.now (take count steps.now) }

@@ -1,4 +1,4 @@
-//! A record, with a test that was left open settled by a proof from outside.
+//! Puts a proof from outside into a record, at a test that was left undecided.
 
 ghost use Rattle.std.specs.Prelude.{◌≡◌, MatchOption, ⊤};
 ghost use Rattle.pack_defs.specs.Scenario.{IsWithinLimits};
@@ -12,9 +12,8 @@ use cert_types::outside::OutsideProof;
 use pack_defs::book::Book;
 use pack_defs::items::Items;
 
-/// The record, its step of this number, from 1, shown by the proof in the place of the receipts of its workers. It is backed as
-/// the record was, and leaves the tests open that the record left, without this one. It takes no memory, and moves what the
-/// record holds.
+/// Returns the record with step `step`, counted from 1, settled by the proof instead of its receipts. The record
+/// stays backed, and the other undecided tests stay undecided. Moves the record and allocates nothing.
 pub fn replace_undecided(rec: Record, book: &Book, step: u32, proof: OutsideProof) -> Record
     requires backed { IsBacked rec.scenario book.now rec.order rec }
     requires limits { IsWithinLimits rec.scenario }
@@ -24,7 +23,7 @@ pub fn replace_undecided(rec: Record, book: &Book, step: u32, proof: OutsideProo
     ensures backed { IsBacked rec.scenario book.now rec.order result }
     ensures left { MatchOption (step_numbered rec.steps step) ⊤ (λ x. undecided_of result.steps ≡ without_test (test_of x) (undecided_of rec.steps)) }
 {
-    // For its clause alone: that the book is in order, which the laws ask.
+    // Its contract has the book's order, which the laws need.
     book.keeps_order();
     let Record {
         scenario,

@@ -1,4 +1,4 @@
-//! An undecided step, settled by the text of a log from outside.
+//! Settles an undecided step by the text of an LRAT log (Cruz-Filipe et al. 2017) that a prover outside wrote.
 
 ghost use Rattle.std.specs.Prelude.{◌≡◌, IfErr, IfOk, Ok};
 ghost use Rattle.pack_defs.specs.Scenario.{IsWithinLimits};
@@ -18,12 +18,12 @@ use lrat_text::read::read_log;
 use pack_defs::book::Book;
 use std::alloc::{AllocError, Global};
 
-/// Why a log doesn't settle a step.
+/// Why a log does not settle a step.
 #[derive(Clone, Copy, Debug, PartialEq, Eq)]
 pub enum SettleErr {
-    /// The text is none of a log.
+    /// The text is not a log.
     Unread(LratErr),
-    /// Up to its first empty line the log is no refutation of the step's set, of at most 1,000,000 lines.
+    /// The log, up to its first empty line, does not refute the step's set in at most 1,000,000 lines.
     NoRefutation,
     /// Memory ran out.
     NoMemory,
@@ -39,7 +39,7 @@ impl From<AllocError> for SettleErr {
     }
 }
 
-// What a text that was not read as a log comes to.
+// The error for a text that could not be read as a log.
 fn unread(why: LratErr) -> SettleErr
     ensures { result ≡ unread why }
 {
@@ -51,7 +51,7 @@ fn unread(why: LratErr) -> SettleErr
     }
 }
 
-// What a log that was not let through comes to.
+// The error for a log that was rejected.
 fn refused(why: CertifyWhy) -> SettleErr
     ensures { result ≡ refused why }
 {
@@ -61,14 +61,14 @@ fn refused(why: CertifyWhy) -> SettleErr
     }
 }
 
-/// The record, its undecided step of this number, from 1, settled by the log that the text says in LRAT's lines over the clauses
-/// of the step's set. What stands behind the log's first empty line is read, and passed over. The record is moved, and no line is
-/// copied. It costs what `task_at`, the reading of the text and the check of the log cost.
+/// Settles the undecided step `step`, counted from 1, by the log that the text spells over the clauses of the step's
+/// set. Returns the record with the proof. Lines after the log's first empty line are read and dropped. Moves the
+/// record and copies no line. Costs `task_at`, the reading of the text, and the check of the log.
 ///
 /// # Errors
 ///
-/// The text is none of a log, with the first line at fault; the log doesn't refute the step's set in at most 1,000,000 lines; or
-/// memory ran out. The record is gone then.
+/// `Unread` with the first invalid line if the text is not a log. `NoRefutation` if the log does not refute the
+/// step's set in at most 1,000,000 lines. `NoMemory` if memory runs out. The record is dropped then.
 #[tactic(auto, unfolding(crate::specs::Settling::settled_text))]
 pub fn settle_by_text(
     alloc: Global,
@@ -88,8 +88,8 @@ pub fn settle_by_text(
     Ok(replace_undecided(rec, book, step, proof))
 }
 
-// Reads a log from the text, and checks that its lines up to the first empty one refute the set of the record's undecided step
-// of this number. Returns these lines as a proof.
+// Reads a log from the text, and checks that its lines up to the first empty one refute the set of the undecided step
+// `step`. Returns these lines as a proof.
 #[tactic(auto, unfolding(crate::specs::Settling::settled_text))]
 fn proof_by_text(
     alloc: Global,

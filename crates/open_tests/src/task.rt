@@ -1,4 +1,4 @@
-//! The query of a step of a record, found again by the steps before it.
+//! Finds the query of a record's step again, by a replay of the steps before it.
 
 ghost use Rattle.std.specs.Prelude.{◌≡◌, ◌≤◌, IfOk, Some, length};
 ghost use Rattle.pack_defs.specs.Scenario.{IsWithinLimits};
@@ -16,11 +16,12 @@ use pack_defs::items::Items;
 use std::alloc::{AllocError as NoMemory, Global};
 use transcript_text::test_set::test_set;
 
-/// The query of the step of this number, from 1: its round, its station, the stations that it asked about and the map before
-/// it on these; its number is one more than the queries before it, that of the start test among them where it was one. A step
-/// that needed no query gives the one that it would have been; where its station has no channel, that serves for its set
-/// alone. It goes through the steps before that one once, beside a clock and a map of its own, and then costs what the step's
-/// stations and their neighbours cost. The only error is want of memory.
+/// Returns the query of step `step`, counted from 1: its number, round, station, the stations that it asked about,
+/// and the channels they had. For a step that needed no query, returns the query that it would have been. If the
+/// step's station has no channel, only the set is meaningful.
+///
+/// Makes one pass over the steps before it, and then costs the step's stations and their neighbours. Fails only if
+/// memory runs out.
 pub fn task_at(alloc: Global, rec: &Record, book: &Book, step: u32) -> Result<Task, NoMemory>
     requires backed { IsBacked rec.now.scenario book.now rec.now.order rec.now }
     requires limits { IsWithinLimits rec.now.scenario }

@@ -1,4 +1,4 @@
--- Laws of several files that are stored in order.
+-- Laws of several files that are stored in order. For the two `store_all`.
 use Rattle.std.proofs.Common.{arith, ◌≡◌, ◌≢◌, ◌<◌, ◌≤◌, ◌+◌, ◌∙◌, ℕ, false, None, List, [], ◌∷◌, ◌++◌, ap, get_or, length, map, refl, subst, sym, take}
 use Rattle.std.specs.Prelude.{slice_get, option_map, Some}
 use Rattle.std.proofs.lemmas.List.{take-map, take_more}
@@ -12,11 +12,11 @@ use Rattle.outside_io.specs.declared.folder.NewFile.{NewFile}
 use Rattle.outside_io.specs.declared.folder.StoreErr.{StoreErr}
 use Rattle.outside_io.specs.declared.folder.StoreErr.TheVariants.{Failed}
 
--- what a folder in memory tells
+-- what is known of a folder in memory
 abbrev pub memory_told : FolderView → FolderTold
 memory_told s = record { files = Some s.files; faults = s.faults; steady = s.steady }
 
--- a file behind those that were stored
+-- one more file after those that were stored
 pub and-then : (xs : List StoredFile) (x : StoredFile) (old between new : FolderTold) → AreAllStored xs old between → StoresOne x between new → AreAllStored (xs ++ x ∷ []) old new
 and-then [] x old between new all one = (new, subst (λ (t : FolderTold). StoresOne x t new) all one, refl)
 and-then (y ∷ ys) x old between new all one = (all.0, all.1, and-then ys x all.0 between new all.2 one)
@@ -48,18 +48,18 @@ stops-here files i any why old between new within all fails = record {
   fails = fails;
 }
 
--- ---- a folder that doesn't tell its files
+-- ---- a folder that is not modelled
 
--- what it tells
+-- what is known of a folder that is not modelled
 abbrev pub untold : ℕ → FolderTold
 untold faults = record { files = None; faults = faults; steady = false }
 
--- where nothing fails it tells nothing of what is stored
+-- if nothing fails, any files may count as stored
 pub all-untold : (xs : List StoredFile) (faults : ℕ) → AreAllStored xs (untold faults) (untold faults)
 all-untold [] faults = refl
 all-untold (x ∷ xs) faults = (untold faults, record { stores = tt; faults = refl; steady = refl }, all-untold xs faults)
 
--- where a file isn't stored, its count of faults says why
+-- if a file is not stored, the count of faults agrees with the reason
 pub stops-untold : (files : List NewFile) (place : ℕ) (why : StoreErr) (old new : ℕ) → place < length files → old ≤ new → (why ≡ Failed → HasRisen old new) → (why ≢ Failed → new ≡ old)
     → StopsAt (map stored_file files) place why (untold old) (untold new)
 stops-untold [] place why old new within counted failed uncounted = absurd (none-within place within)

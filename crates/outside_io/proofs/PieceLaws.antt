@@ -1,4 +1,4 @@
--- Laws of a piece: the first bytes of those that are left; and of a file that a caller reads in pieces.
+-- Laws of a piece, the next bytes of those that are left, and of a file that a caller reads in pieces.
 use Rattle.outside_io.specs.Files.{StoredFile, bytes_of}
 use Rattle.outside_io.specs.Pieces.{piece_size, Begins, BeginsFile, HandsOut, HandedSoFar, HandedAll}
 use Rattle.std.proofs.Common.{arith, ◌≡◌, ◌≢◌, suc, if◌then◌else◌, Bool, true, ℕ, ◌+◌, ◌-◌, List, [], ◌∷◌, ◌++◌, take, drop, length, Option, Some, None, Ok, refl, sym, ap, subst, ◌∙◌, min, take-append-drop, append_assoc, append-nil}
@@ -8,7 +8,7 @@ use Rattle.std.proofs.lemmas.List.{take_rest, take_min, drop_min, drop-drop}
 rest-is : (held left : List ℕ) (next : ℕ) → drop next held ≡ left → take (length held - next) (drop next held) ≡ left
 rest-is held left next e = take_rest held next ∙ e
 
--- what is put behind no bytes is the piece, where there was memory
+-- what is appended to no bytes is the piece, if memory sufficed
 pub piece-is : (into old held left : List ℕ) (ok : Bool) (next count size : ℕ) → drop next held ≡ left → old ≡ [] → ok ≡ true
     → count ≡ min size (length (take (length held - next) (drop next held)))
     → into ≡ (if ok then old ++ take count (take (length held - next) (drop next held)) else old) → into ≡ take size left
@@ -21,7 +21,7 @@ piece-is into old held left ok next count size e none done c i =
     ∙ take_min size slice
     ∙ ap (take size) (rest-is held left next e)
 
--- and the others are left
+-- the other bytes are left
 pub left-is : (held left : List ℕ) (next count size : ℕ) → drop next held ≡ left
     → count ≡ min size (length (take (length held - next) (drop next held)))
     → drop (next + count) held ≡ drop size left
@@ -31,7 +31,7 @@ left-is held left next count size e c =
     ∙ ap (λ n. drop n left) (c ∙ ap (λ xs. min size (length xs)) (rest-is held left next e))
     ∙ drop_min size left
 
--- A caller that has begun a file has been handed no bytes of it.
+-- a caller that has just opened a file has read no bytes of it
 begun-file : (bytes : Option (List ℕ)) (limit : ℕ) (u : Unit {0}) (left : Option (List ℕ)) → BeginsFile bytes limit (Ok u) left
     → (rest : List ℕ) × (left ≡ Some rest) × (bytes ≡ Some rest)
 begun-file None limit u left h = absurd h
@@ -42,7 +42,7 @@ pub begun-none : (told : Option (List StoredFile)) (name : List ℕ) (limit : �
 begun-none None name limit u left h = tt
 begun-none (Some files) name limit u left h = begun-file (bytes_of files name) limit u left h
 
--- the first of what is left was handed out
+-- the next bytes of what was left were read
 one-more : (files : List StoredFile) (name done rest into : List ℕ) (left after : Option (List ℕ)) (u : Unit {0})
     → left ≡ Some rest → bytes_of files name ≡ Some (done ++ rest) → HandsOut left after (Ok u) into
     → (more : List ℕ) × (after ≡ Some more) × (bytes_of files name ≡ Some ((done ++ into) ++ more))
@@ -51,7 +51,7 @@ one-more files name done rest into left after u is whole h =
     let more = drop piece_size rest in
     (more, parts.1, whole ∙ ap (λ xs. Some xs) (ap (λ xs. done ++ xs) (sym (take-append-drop piece_size rest) ∙ ap (λ xs. xs ++ more) (sym parts.0)) ∙ sym (append_assoc done into more)))
 
--- Each piece adds its bytes.
+-- each piece adds its bytes
 pub handed-more : (told : Option (List StoredFile)) (name done into : List ℕ) (left after : Option (List ℕ)) (u : Unit {0})
     → HandedSoFar told name done left → HandsOut left after (Ok u) into → HandedSoFar told name (done ++ into) after
 handed-more None name done into left after u so_far h = tt
@@ -60,7 +60,7 @@ handed-more (Some files) name done into left after u so_far h = one-more files n
 not-zero : (n : ℕ) → suc n ≢ 0
 not-zero n h = omega (arith, h)
 
--- no bytes are handed out only where none are left
+-- a piece has no bytes only if none are left
 none-left : (n : ℕ) (rest into : List ℕ) → into ≡ take (suc n) rest → length into ≡ 0 → rest ≡ []
 none-left n [] into h none = refl
 none-left n (x ∷ xs) into h none = absurd (not-zero (length (take n xs)) (ap (λ (l : List ℕ). length l) (sym h) ∙ none))
@@ -72,7 +72,7 @@ last-one files name done rest into left after u is whole h none =
     let parts : HandsOut (Some rest) after (Ok u) into = subst (λ o. HandsOut o after (Ok u) into) is h in
     whole ∙ ap (λ xs. Some (done ++ xs)) (none-left 65535 rest into parts.0 none) ∙ ap (λ xs. Some xs) (append-nil done)
 
--- A piece of no bytes ends the file.
+-- a piece without bytes ends the file
 pub handed-all : (told : Option (List StoredFile)) (name done into : List ℕ) (left after : Option (List ℕ)) (u : Unit {0})
     → HandedSoFar told name done left → HandsOut left after (Ok u) into → length into ≡ 0 → HandedAll told name done
 handed-all None name done into left after u so_far h none = tt

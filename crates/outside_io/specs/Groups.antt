@@ -1,4 +1,4 @@
--- Several files that are stored in one call: each as one alone, in order, up to the first that isn't stored.
+-- Several files that are stored in one call: each as if alone, in order, up to the first that cannot be stored.
 use Rattle.std.specs.Prelude.{◌≡◌, ◌≢◌, ◌≤◌, ℕ, true, List, [], ◌∷◌, take, Some, Ok, Err, slice_get}
 use Rattle.outside_io.specs.declared.folder.NewFile.{NewFile}
 use Rattle.outside_io.specs.declared.folder.StoreErr.{StoreErr}
@@ -8,22 +8,22 @@ use Rattle.outside_io.specs.Files.{StoredFile}
 use Rattle.outside_io.specs.Loads.{Stores}
 use Rattle.outside_io.specs.Told.{FolderTold}
 
--- a file to store, as a folder tells it
+-- A file to store, as part of a modelled folder.
 abbrev pub stored_file : NewFile → StoredFile
 stored_file x = record { name = x.name.now; bytes = x.bytes.now }
 
--- between these two the file was stored
+-- Whether the file was stored between these two states of the folder.
 pub record StoresOne (x : StoredFile) (old new : FolderTold) : Type 0 where
   pub stores : Stores old.files new.files x.name x.bytes (Ok tt)
   pub faults : new.faults ≡ old.faults
   pub steady : new.steady ≡ old.steady
 
--- each of these files was stored, in order
+-- Whether each of these files was stored, in order, between these two states of the folder.
 abbrev pub AreAllStored : List StoredFile → FolderTold → FolderTold → Type 0
 AreAllStored [] old new = new ≡ old
 AreAllStored (x ∷ xs) old new = (next : FolderTold) × StoresOne x old next × AreAllStored xs next new
 
--- between these two the file was not stored, for this reason
+-- Whether the file was not stored between these two states of the folder, for this reason.
 pub record FailsOne (x : StoredFile) (why : StoreErr) (old new : FolderTold) : Type 0 where
   pub stores : Stores old.files new.files x.name x.bytes (Err why)
   pub counted : old.faults ≤ new.faults
@@ -32,7 +32,7 @@ pub record FailsOne (x : StoredFile) (why : StoreErr) (old new : FolderTold) : T
   pub steady : new.steady ≡ old.steady
   pub surely : old.steady ≡ true → why ≢ Failed
 
--- the files before this place were stored, in order, and the one at it was not, for this reason
+-- Whether the files before this place were stored, in order, and the file at this place was not, for this reason.
 pub record StopsAt (xs : List StoredFile) (place : ℕ) (why : StoreErr) (old new : FolderTold) : Type 0 where
   pub file : StoredFile
   pub there : slice_get xs place ≡ Some file

@@ -1,21 +1,21 @@
--- What a folder and a sink in memory show.
+-- A folder and a sink in memory, as contracts see them.
 use Rattle.std.specs.Prelude.{ℕ, Bool, List}
 use Rattle.outside_io.specs.Files.{StoredFile}
 
--- the file that is begun: its bytes that are left, how many were handed out, and how many may be
+-- The file that is open for pieces: its bytes that are left, how many were read, and its limit.
 pub record BegunView : Type 0 where
   pub left : List ℕ
   pub come : ℕ
   pub most : ℕ
 
--- a folder: its files, the one that is begun, how often a call failed, and whether no call is to fail
+-- A folder in memory: its files, the open file, the count of faults, and whether no call is to fail.
 pub record FolderView : Type 0 where
   pub files : List StoredFile
   pub begun : BegunView
   pub faults : ℕ
   pub steady : Bool
 
--- a sink: the bytes that it holds, room for how many more, how often a call failed, and whether no call is to fail
+-- A sink in memory: its bytes, room for how many more, the count of faults, and whether no call is to fail.
 pub record SinkView : Type 0 where
   pub held : List ℕ
   pub room : ℕ

@@ -1,7 +1,7 @@
--- What a folder of the system shows.
+-- A folder of the operating system, as contracts see it.
 use Rattle.std.specs.Prelude.{ℕ, Bool}
 
--- how often it failed, whether a file is begun, how many of its bytes were handed out, and how many may be
+-- The count of faults, whether a file is open for pieces, how many of its bytes were read, and its limit.
 pub record RealView : Type 0 where
   pub faults : ℕ
   pub begun : Bool

@@ -1,21 +1,22 @@
--- What a folder and a sink tell of themselves.
+-- What contracts know of any folder and any sink.
 use Rattle.std.specs.Prelude.{ℕ, Bool, List, Option}
 use Rattle.outside_io.specs.Files.{StoredFile}
 
--- a folder
+-- What is known of a folder.
 pub record FolderTold : Type 0 where
-  -- the files, where the folder tells them
+  -- The files, if the folder is modelled.
   pub files : Option (List StoredFile)
-  -- how often the outside failed; a call that doesn't answer `Failed` leaves it as it is
+  -- The count of faults. A call that does not return `Failed` leaves it unchanged.
   pub faults : ℕ
-  -- the outside never fails: a store and a piece don't, and a load and a beginning do so only for a name that isn't there
+  -- Whether the outside never fails. Then stores and pieces do not return `Failed`, and loads and `begin` do so only for a name
+  -- without a file.
   pub steady : Bool
 
--- a sink
+-- What is known of a sink.
 pub record SinkTold : Type 0 where
-  -- the bytes written so far, where the sink tells them
+  -- The bytes written so far, if the sink is modelled.
   pub held : Option (List ℕ)
-  -- how often the outside failed; a write that doesn't fail leaves it as it is
+  -- The count of faults. A write that succeeds leaves it unchanged.
   pub faults : ℕ
-  -- so many bytes more are surely written
+  -- The number of further bytes that are certain to be written.
   pub sure : ℕ

@@ -1,4 +1,4 @@
-//! The file that a folder in memory hands out in pieces. `MemoryFolder` has one, and no other file uses it.
+//! The file that a folder in memory reads in pieces. Only `MemoryFolder` uses it.
 ghost use Rattle.std.specs.Prelude.{◌≡◌, ◌+◌, ◌≤◌, [], take, drop, length, OnOk, OnErr};
 ghost use Rattle.outside_io.specs.Pieces.{piece_size};
 
@@ -6,13 +6,13 @@ use crate::folder::PIECE_SIZE;
 use std::alloc::{AllocError as NoMemory, Global};
 use std::marker::Model;
 
-/// A copy of the file's bytes, and how far they are handed out. Where no file is begun, no bytes are left.
+/// A copy of the file's bytes, and how far they were read. If no file is open, no bytes are left.
 #[derive(Debug, Drop)]
 pub(crate) struct BegunFile {
     bytes: Vec<u8>,
     // The bytes from here on are left.
     next: usize,
-    // How many bytes were handed out since the last `begin`, and how many may be.
+    // How many bytes were read since the last `begin`, and its limit.
     come: u64,
     most: u64,
 }
@@ -29,7 +29,7 @@ impl Model for BegunFile {
 }
 
 impl BegunFile {
-    /// No file is begun, and none was.
+    /// Returns the state in which no file is or was open.
     pub(crate) fn none(alloc: Global) -> BegunFile
         ensures left { result.left ≡ [] }
         ensures come { result.come ≡ 0 }
@@ -43,7 +43,7 @@ impl BegunFile {
         }
     }
 
-    /// No file is begun any more: no bytes are left.
+    /// Closes the file: no bytes are left.
     pub(crate) fn end(&mut self)
         ensures left { self.new.left ≡ [] }
         ensures come { self.new.come ≡ self.old.come }
@@ -54,7 +54,7 @@ impl BegunFile {
         self.next = 0;
     }
 
-    /// Makes ready for a file of at most `limit` bytes.
+    /// Closes the file and sets the limit for the next one, in bytes.
     pub(crate) fn limit_to(&mut self, limit: u64)
         ensures left { self.new.left ≡ [] }
         ensures come { self.new.come ≡ 0 }
@@ -66,7 +66,7 @@ impl BegunFile {
         self.most = limit;
     }
 
-    /// Begins a file of these bytes.
+    /// Opens a file of these bytes.
     pub(crate) fn fill(&mut self, bytes: &[u8]) -> Result<(), NoMemory>
         requires ended { self.old.left ≡ [] }
         requires within { self.old.come + length bytes.now ≤ self.old.most }
@@ -80,7 +80,7 @@ impl BegunFile {
         Ok(())
     }
 
-    /// Hands out the next piece. After an error no file is begun: no bytes are left.
+    /// Returns the next piece in `into`. After an error no file is open and no bytes are left.
     pub(crate) fn hand_out(&mut self, into: &mut Vec<u8>) -> Result<(), NoMemory>
         requires { into.old.items ≡ [] }
         ensures size { length into.new.items ≤ piece_size }

@@ -1,4 +1,5 @@
-//! Texts that are stored over the system's files: each is written beside its place, and put there once all of them are whole.
+//! Stores texts in the system's files: each text is written to a new file beside its place, and renamed into the place once all
+//! texts are written. `real` calls `store_together`.
 ghost use Rattle.std.specs.Prelude.{◌≡◌, ◌<◌, ◌≤◌, [], length, IfErr, IfOk};
 
 use crate::folder::{NewFile, StoreErr, Unstored};
@@ -9,15 +10,22 @@ use std::fs::{Files, Metadata, OpenFile};
 use std::path::{Path, PathBuf};
 use std::{fs, io};
 
-// So many names are tried for a file beside a place.
+// The number of names tried for a new file beside a place.
 const MOST_NAMES: u32 = 1_000;
 
-// A file that is written beside its place; none, where the place itself was written.
+// The path of a new file beside its place; `None` if the place itself was written.
 type Beside = Option<PathBuf<Global>>;
 
-/// Stores these texts. Where a place is free or has a plain file, the text is synced to the disk and comes into its place at once,
-/// with all others that do: until each is written no such place is touched, and after an error none that stands behind it is. A
-/// device, a pipe or a link is written itself, and not synced. The error says which text was not stored, and why.
+/// Stores these texts. Until every text is written, no plain file or free place is touched. After that, each text is renamed into
+/// its place in one step.
+///
+/// A place that is free or holds a plain file gets a new file. The new file is synced to the disk first, if the file system can
+/// sync files. A device, a pipe or a link is written directly, and not synced.
+///
+/// # Errors
+///
+/// Fails with the first text that could not be stored, and the reason. The plain files and free places of the texts after it are
+/// then untouched.
 pub(crate) fn store_together<R: Files>(
     files: &R,
     alloc: Global,
@@ -33,7 +41,7 @@ pub(crate) fn store_together<R: Files>(
     put_each(files, texts, &beside)
 }
 
-// Writes each text, up to the first that can't be.
+// Writes each text, up to the first that cannot be written.
 fn write_each<R: Files>(
     files: &R,
     alloc: Global,
@@ -56,7 +64,7 @@ fn write_each<R: Files>(
     Ok(())
 }
 
-// Writes a text, beside its place where it is to be replaced.
+// Writes a text: to a new file beside its place if the place is free or a plain file, and otherwise to the place itself.
 fn write_one<R: Files>(files: &R, alloc: Global, text: &NewFile<'_>) -> Result<Beside, StoreErr> {
     match fs::symlink_metadata(files, text.name) {
         Ok(old) if old.is_file() => write_beside(files, alloc, text, Some(old)),
@@ -70,7 +78,7 @@ fn write_one<R: Files>(files: &R, alloc: Global, text: &NewFile<'_>) -> Result<B
     }
 }
 
-// Writes a text to what stands at its place: a device, a pipe, or what a link leads to.
+// Writes a text to what is at its place: a device, a pipe, or the target of a link.
 fn write_through<R: Files>(files: &R, text: &NewFile<'_>) -> Result<(), StoreErr> {
     let Ok(mut file) = fs::create(files, text.name) else {
         return Err(StoreErr::Failed);
@@ -81,7 +89,7 @@ fn write_through<R: Files>(files: &R, text: &NewFile<'_>) -> Result<(), StoreErr
     }
 }
 
-// Writes a text beside its place, with the permissions of the file that stands there. After an error nothing is left of it.
+// Writes a text to a new file beside its place, with the permissions of the old file there. After an error the new file is removed.
 fn write_beside<R: Files>(
     files: &R,
     alloc: Global,
@@ -105,13 +113,13 @@ fn write_beside<R: Files>(
     Err(StoreErr::Failed)
 }
 
-// The path beside a place that has this number.
+// Returns the path of this number beside a place.
 fn path_beside(alloc: Global, place: &str, number: u32) -> Result<PathBuf<Global>, NoMemory> {
     let name = format!(in alloc; "repack-{number}.part")?;
     Path::new(place).with_file_name(alloc, &name)
 }
 
-// Gives a new file these bytes, and the permissions of the old one, and syncs it.
+// Gives a new file these bytes and the permissions of the old file, and syncs it.
 fn fill<F: io::Write + OpenFile>(
     file: &mut F,
     bytes: &[u8],
@@ -125,14 +133,14 @@ fn fill<F: io::Write + OpenFile>(
     match file.sync_all() {
         Ok(()) => Ok(()),
         Err(error) => match error.kind() {
-            // Some file systems sync no file.
+            // Some file systems cannot sync a file.
             io::ErrorKind::InvalidInput | io::ErrorKind::Unsupported => Ok(()),
             _ => Err(Failed),
         },
     }
 }
 
-// Puts what was written beside the places into them, in order, and syncs their folders.
+// Renames the new files into their places, in order, and syncs their folders.
 fn put_each<R: Files>(files: &R, texts: &[NewFile<'_>], beside: &[Beside]) -> Result<(), Unstored>
     requires { length beside.now ≡ length texts.now }
     ensures { IfErr result (λ e. e.at < length texts.now) }
@@ -151,7 +159,7 @@ fn put_each<R: Files>(files: &R, texts: &[NewFile<'_>], beside: &[Beside]) -> Re
     Ok(())
 }
 
-// Syncs the folder that a file stands in. Where the system can't, what was put there may be the old file after a loss of power.
+// Syncs the folder of a file. If the system cannot, a loss of power may bring the old file back.
 fn sync_folder_of<R: Files>(files: &R, name: &str) {
     let folder = match Path::new(name).parent() {
         Some(parent) if !parent.as_str().is_empty() => parent,
@@ -162,7 +170,7 @@ fn sync_folder_of<R: Files>(files: &R, name: &str) {
     }
 }
 
-// Removes what was written beside places.
+// Removes the new files beside their places.
 fn remove_each<R: Files>(files: &R, beside: &[Beside]) {
     for path in beside {
         if let Some(path) = path {

@@ -1,4 +1,4 @@
-//! Which calls of an outside in memory are to fail.
+//! The plan of faults of a folder or sink in memory: which of its calls are to fail.
 ghost use Rattle.std.specs.Prelude.{◌≡◌, ◌+◌, ◌-◌, ◌^◌, ◌≤◌, ◌↔◌, if◌then◌else◌, min, Contains, IsTrue};
 
 /// The numbers of the calls that are to fail, and counts of the calls and of the faults so far.
@@ -10,6 +10,7 @@ pub(crate) struct FaultPlan {
 }
 
 impl FaultPlan {
+    /// Returns the plan by which the calls with these numbers fail, counted from 1.
     pub(crate) fn new(failing: Vec<u64>) -> FaultPlan
         ensures failing { result.failing ≡ failing }
         ensures calls { result.calls ≡ 0 }
@@ -22,7 +23,7 @@ impl FaultPlan {
         }
     }
 
-    /// Counts one more call, and says whether it fails. That is a fault.
+    /// Counts one more call, and returns whether it fails. A failing call counts as a fault.
     pub(crate) fn next_fails(&mut self) -> bool
         ensures failing { self.new.failing ≡ self.old.failing }
         ensures calls { self.new.calls ≡ min (self.old.calls + 1) (2 ^ 64 - 1) }

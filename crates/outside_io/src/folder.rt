@@ -1,4 +1,4 @@
-//! What a program asks of the files outside: the trait `Folder`, and why a call of it fails.
+//! The files that a program reads and stores: the trait `Folder`, and why a call of it fails.
 ghost use Rattle.std.specs.Prelude.{◌≡◌, ◌≢◌, ◌<◌, ◌≤◌, ◌+◌, ℕ, [], List, Option, true, Some, IfErr, OnErr, OnOk, length, map};
 ghost use Rattle.outside_io.specs.Faults.{HasRisen};
 ghost use Rattle.outside_io.specs.Groups.{AreAllStored, StopsAt, stored_file};
@@ -8,13 +8,13 @@ ghost use Rattle.outside_io.specs.Told.{FolderTold};
 
 use std::alloc::AllocError;
 
-/// A piece of a file has at most so many bytes.
+/// The most bytes in a piece of a file.
 pub const PIECE_SIZE: usize = 65_536;
 
 /// Why a file was not loaded.
 #[derive(Clone, Copy, Debug, PartialEq, Eq)]
 pub enum LoadErr {
-    /// The outside failed, or the name isn't there.
+    /// The outside failed, or there is no file of that name.
     Failed,
     /// The file is longer than the limit.
     TooLong,
@@ -49,7 +49,7 @@ impl From<AllocError> for StoreErr {
     }
 }
 
-/// A file to store: its name, and the bytes that it is to hold.
+/// A file to store: its name, and its new bytes.
 #[derive(Clone, Copy, Debug)]
 pub struct NewFile<'a> {
     pub name: &'a str,
@@ -64,7 +64,7 @@ pub struct Unstored {
 }
 
 impl Unstored {
-    /// The file at this place was not stored.
+    /// Returns the error that the file at this place was not stored.
     pub fn new(at: usize, why: StoreErr) -> Unstored
         ensures at { result.at ≡ at }
         ensures why { result.why ≡ why }
@@ -73,20 +73,20 @@ impl Unstored {
     }
 }
 
-/// Files by name. One file at a time may be read in pieces: it is begun, and then handed out piece by piece. Loads and stores
-/// leave it as it is.
+/// Files by name. One file at a time may be read in pieces: `begin` opens it, and each `piece` returns its next bytes. Loads and
+/// stores do not disturb it.
 pub trait Folder {
-    /// The files, where the folder tells them, how often the outside failed, and whether it never does.
+    /// The files of a modelled folder, the count of faults, and whether the outside never fails.
     ghost told: { Self → FolderTold };
 
-    /// The bytes of the file that is begun which are not handed out yet, where the folder tells them. Where no file is begun,
-    /// each folder tells that no bytes are left.
+    /// The bytes of the open file that are still to be read, in a modelled folder. If no file is open, no bytes are left in any
+    /// folder.
     ghost left: { Self → Option (List ℕ) };
 
-    /// How many bytes were handed out since the last `begin`.
+    /// The number of bytes read in pieces since the last `begin`.
     ghost come: { Self → ℕ };
 
-    /// How many bytes may be: the limit of the last `begin`.
+    /// The limit of the last `begin`, in bytes.
     ghost most: { Self → ℕ };
 
     /// Loads a file of at most `limit` bytes into `into`, which is empty after an error.
@@ -104,8 +104,8 @@ pub trait Folder {
         ensures steady { (told self.new).steady ≡ (told self.old).steady }
         ensures surely { FindsWhatIsThere (told self.old) name.now result };
 
-    /// Stores these bytes under the name, in place of what it held. After an error the name may hold anything, or be gone,
-    /// and the other files are what they were.
+    /// Replaces the contents of the file of this name by these bytes, or makes the file. After an error that file may hold
+    /// anything, or be gone; other files are unchanged.
     fn store(&mut self, name: &str, bytes: &[u8]) -> Result<(), StoreErr>
         ensures told { Stores (told self.old).files (told self.new).files name.now bytes.now result }
         ensures counted { (told self.old).faults ≤ (told self.new).faults }
@@ -117,8 +117,8 @@ pub trait Folder {
         ensures steady { (told self.new).steady ≡ (told self.old).steady }
         ensures surely { (told self.old).steady ≡ true → result ≢ Err StoreErr.Failed };
 
-    /// Stores these files, each as `store` does and in order, up to the first that isn't stored. Where the folder doesn't tell its
-    /// files, nothing is said of when each of them is there.
+    /// Stores these files in order, each as `store` does, up to the first that cannot be stored. If the folder is not modelled, no
+    /// contract says when each file appears.
     fn store_all(&mut self, files: &[NewFile<'_>]) -> Result<(), Unstored>
         ensures stored { OnOk result (AreAllStored (map stored_file files.now) (told self.old) (told self.new)) }
         ensures stopped { IfErr result (λ e. StopsAt (map stored_file files.now) e.at e.why (told self.old) (told self.new)) }
@@ -126,9 +126,9 @@ pub trait Folder {
         ensures come { come self.new ≡ come self.old }
         ensures most { most self.new ≡ most self.old };
 
-    /// Begins a file of at most `limit` bytes, in place of the one that was begun. After an error no file is begun: no bytes
-    /// are left. Where the folder doesn't tell its files, it doesn't tell this one either, and that it is too long may show only
-    /// at a piece.
+    /// Opens a file of at most `limit` bytes for reading in pieces, in place of the one that was open. After an error no file is
+    /// open and no bytes are left. In a folder that is not modelled the file is not modelled either, and `TooLong` may come only
+    /// from a later piece.
     fn begin(&mut self, name: &str, limit: u64) -> Result<(), LoadErr>
         ensures told { Begins (told self.old).files name.now limit result (left self.new) }
         ensures ended { OnErr result (left self.new ≡ Some []) }
@@ -141,10 +141,11 @@ pub trait Folder {
         ensures steady { (told self.new).steady ≡ (told self.old).steady }
         ensures surely { FindsWhatIsThere (told self.old) name.now result };
 
-    /// Puts the next bytes of the file that is begun into `into`, in place of what it held: no bytes at the end of the file,
-    /// and where no file is begun. After an error there are no bytes either, and no file is begun: no bytes are left. A file
-    /// that the folder doesn't tell is too long where its bytes would pass the limit of `begin`. That shows only where less
-    /// than a piece may still come.
+    /// Replaces the contents of `into` by the next bytes of the open file. No bytes mean the end of the file, or that no file is
+    /// open. After an error there are no bytes, and no file is open.
+    ///
+    /// A file that is not modelled is too long if its bytes would exceed the limit of `begin`. That error comes only when less than
+    /// a full piece is left within the limit.
     fn piece(&mut self, into: &mut Vec<u8>) -> Result<(), LoadErr>
         ensures told { HandsOut (left self.old) (left self.new) result into.new.items }
         ensures size { length into.new.items ≤ piece_size }

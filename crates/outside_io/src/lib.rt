@@ -1,15 +1,29 @@
-//! The outside of the program: a folder of files and a sink of bytes, by what they tell and by a count of their faults.
+//! The outside of the program: a folder of files and a sink of bytes, each with a count of its faults.
 //!
-//! `MemoryFolder` and `MemorySink` stand in memory, for tests. They tell what they hold, and calls of theirs fail by number.
+//! `MemoryFolder` and `MemorySink` live in memory, for tests. Their contents are part of the model: `MemoryFolder` is a modelled
+//! folder and `MemorySink` a modelled sink. Calls chosen by number fail.
 //!
-//! `RealFolder` and `RealSink` stand over the system, and tell nothing: no contract says what a real file or the standard
-//! output holds. It is proved that a load, and all pieces of a file together, keep to their limit, that a call which answers
-//! `Failed` has counted a fault and no other call has, that a piece with bytes doesn't end its file, and that the loops take
-//! all bytes of a reader, and give all bytes to a writer, that tells its bytes, and a piece the next ones. That the system's
-//! files and its output are such a reader and such a writer is trusted.
+//! `RealFolder` and `RealSink` call the operating system, and are not modelled: no contract says what a real file or the standard
+//! output contains. What is proved of them:
 //!
-//! It calls the standard library alone. `commands` and what stands on it take the outside from here; no reader, solver or
-//! check of answers knows of it. Read `folder` and `sink` first, which have the traits, then `real`, then the two in memory.
+//! - A load, and all pieces of a file together, keep to their limit.
+//! - A call that returns `Failed` has counted a fault, and no other call has.
+//! - A piece with bytes does not end its file.
+//! - If the reader is modelled, the loops read all of its bytes, and a piece reads the next ones. If the writer is modelled, the
+//! loops write all bytes.
+//!
+//! That the system's files and its output behave like such a reader and such a writer is trusted.
+//!
+//! The crate calls the standard library only. `commands` and the crates above it reach the outside through this crate; no reader,
+//! solver or check of answers uses it.
+//!
+//! The modules in reading order:
+//!
+//! - `folder`, `sink`: the traits.
+//! - `real`: the folder and sink of the operating system.
+//! - `beside`, `writing`: how `real` stores files and writes bytes.
+//! - `memory_folder`, `memory_sink`: the folder and sink in memory.
+//! - `begun_file`, `fault_plan`: their parts.
 #![tactic(auto)]
 
 mod begun_file;

@@ -1,4 +1,4 @@
-//! A folder in memory, for the tests of this crate and of those above it.
+//! A folder in memory, for the tests of this crate and of the crates above it.
 ghost use Rattle.std.specs.Prelude.{◌≡◌, ◌<◌, ◌↔◌, [], length, option_map, None, IsTrue, IfOk, OnOk, OnErr, IfSome, IfNone};
 ghost use Rattle.outside_io.specs.Files.{StoredFile, bytes_of, IsPlace, with_file};
 
@@ -11,7 +11,7 @@ use std::marker::Model;
 /// A file of a folder in memory.
 #[derive(Debug, Drop)]
 pub struct MemoryFile {
-    /// Names are compared as bytes.
+    /// The file's name. Names are compared as bytes.
     pub name: String,
     pub bytes: Vec<u8>,
 }
@@ -26,7 +26,11 @@ impl Model for MemoryFile {
 }
 
 impl MemoryFile {
-    /// A file with a copy of this name and of these bytes. The only error is want of memory.
+    /// Returns a file with a copy of this name and of these bytes.
+    ///
+    /// # Errors
+    ///
+    /// Fails only if memory runs out.
     pub fn new(alloc: Global, name: &str, bytes: &[u8]) -> Result<MemoryFile, NoMemory>
         ensures name { IfOk result (λ file. file.name ≡ name.now) }
         ensures bytes { IfOk result (λ file. file.bytes ≡ bytes.now) }
@@ -38,8 +42,7 @@ impl MemoryFile {
     }
 }
 
-/// A folder in memory, for tests. It tells its files. What a file held when it was begun is handed out, whatever is stored
-/// after that.
+/// A modelled folder in memory, for tests. Pieces come from the contents that the file had at `begin`, whatever is stored later.
 #[derive(Debug, Drop)]
 pub struct MemoryFolder {
     files: Vec<MemoryFile>,
@@ -57,8 +60,8 @@ impl Model for MemoryFolder {
 }
 
 impl MemoryFolder {
-    /// A folder of these files, none of which is begun. Calls of `load`, `store`, `begin` and `piece` are counted together from
-    /// 1, and those whose numbers are in `failing` fail. Of several files of one name only the first is seen.
+    /// Returns a folder of these files, none of them open. Calls of `load`, `store`, `begin` and `piece` are counted together from
+    /// 1; those whose numbers are in `failing` fail. If several files have the same name, only the first is visible.
     pub fn new(files: Vec<MemoryFile>, failing: Vec<u64>) -> MemoryFolder
         ensures files { result.files ≡ files.items }
         ensures left { result.begun.left ≡ [] }
@@ -74,7 +77,7 @@ impl MemoryFolder {
         }
     }
 
-    /// The bytes under a name.
+    /// Returns the bytes of the file of this name, if there is one.
     pub fn bytes(&self, name: &str) -> Option<&[u8]>
         ensures { option_map (λ bytes. bytes.now) result ≡ bytes_of self.now.files name.now }
     {
@@ -82,7 +85,7 @@ impl MemoryFolder {
     }
 }
 
-// Where the file of this name stands.
+// Returns the place of the first file of this name.
 fn place(files: &[MemoryFile], name: &str) -> Option<usize>
     ensures absent { IfNone result (bytes_of files.now name.now ≡ None) }
     ensures found { IfSome result (IsPlace files.now name.now) }
@@ -95,7 +98,7 @@ fn place(files: &[MemoryFile], name: &str) -> Option<usize>
     None
 }
 
-// The bytes of the file of this name.
+// Returns the bytes of the first file of this name.
 fn bytes_under<'a>(files: &'a [MemoryFile], name: &str) -> Option<&'a [u8]>
     ensures { option_map (λ bytes. bytes.now) result ≡ bytes_of files.now name.now }
 {
@@ -104,7 +107,7 @@ fn bytes_under<'a>(files: &'a [MemoryFile], name: &str) -> Option<&'a [u8]>
     Some(&file.bytes)
 }
 
-// Puts a copy of these bytes under the name.
+// Stores a copy of these bytes under the name.
 fn put(files: &mut Vec<MemoryFile>, name: &str, bytes: &[u8]) -> Result<(), NoMemory>
     ensures ok { OnOk result (files.new.items ≡ with_file files.old.items name.now bytes.now) }
     ensures err { OnErr result (files.new.items ≡ files.old.items) }

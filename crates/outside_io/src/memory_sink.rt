@@ -1,4 +1,4 @@
-//! A sink in memory, for tests: it holds what was written, and fails where it is told to.
+//! A sink in memory, for tests: it keeps what was written, and chosen writes fail.
 
 ghost use Rattle.std.specs.Prelude.{◌≡◌, ◌-◌, ◌++◌, ◌≤◌, ◌↔◌, [], take, length, min, IsTrue, IfOk};
 
@@ -7,11 +7,11 @@ use crate::sink::{Failed, Sink};
 use std::alloc::{AllocError as NoMemory, Global};
 use std::marker::Model;
 
-/// A sink in memory, for tests. It tells the bytes that it holds.
+/// A modelled sink in memory, for tests.
 #[derive(Debug, Drop)]
 pub struct MemorySink {
     held: Vec<u8>,
-    // How many bytes more it takes. They are reserved.
+    // How many more bytes fit. Their room is reserved.
     room: usize,
     plan: FaultPlan,
 }
@@ -28,8 +28,12 @@ impl Model for MemorySink {
 }
 
 impl MemorySink {
-    /// A sink with room for so many bytes. Writes of at least one byte are counted from 1, and those whose numbers are in
-    /// `failing` fail and send nothing. The only error is want of memory.
+    /// Returns a sink with room for this many bytes. Writes of at least one byte are counted from 1; those whose numbers are in
+    /// `failing` fail and write nothing.
+    ///
+    /// # Errors
+    ///
+    /// Fails only if memory runs out.
     pub fn new(alloc: Global, room: usize, failing: Vec<u64>) -> Result<MemorySink, NoMemory>
         ensures held { IfOk result (λ sink. sink.held ≡ []) }
         ensures room { IfOk result (λ sink. sink.room ≡ room) }
@@ -43,14 +47,14 @@ impl MemorySink {
         })
     }
 
-    /// The bytes written so far.
+    /// Returns the bytes written so far.
     pub fn bytes(&self) -> &[u8]
         ensures { result.now ≡ self.now.held }
     {
         &self.held
     }
 
-    // Sends the bytes that fit, from the first on, and says how many.
+    // Writes as many of the bytes as fit, from the first on, and returns their number.
     fn send(&mut self, bytes: &[u8]) -> usize
         ensures sent { result ≡ min (length bytes.now) self.old.room }
         ensures held { self.new.held ≡ self.old.held ++ take result bytes.now }
@@ -59,7 +63,7 @@ impl MemorySink {
         ensures steady { self.new.steady ≡ self.old.steady }
     {
         let sent = bytes.len().min(self.room);
-        // The room is reserved, so this takes no memory.
+        // The room is reserved, so this allocates nothing.
         self.held.extend_from_slice(&bytes[..sent]).unwrap();
         self.room -= sent;
         sent

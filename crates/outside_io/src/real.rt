@@ -1,4 +1,4 @@
-//! The outside of the system: its files, and its standard output. They tell nothing of what is there.
+//! The folder and sink of the operating system: its files and its standard output. Neither is modelled.
 ghost use Rattle.std.specs.Prelude.{◌≡◌, ◌<◌, ◌≤◌, [], length, false, OnOk, OnErr, IfSome};
 ghost use Rattle.std.specs.Io.KnownBytes.{Consumes};
 ghost use Rattle.outside_io.specs.Pieces.{piece_size};
@@ -14,14 +14,14 @@ use std::marker::Model;
 use std::rt::Files;
 use std::{fs, io};
 
-/// The files of the system. A path is a name. Contracts see its count of faults, whether a file is begun, and how many of its
-/// bytes were handed out and may be.
+/// The files of the operating system; a name is a path. Contracts see the count of faults, whether a file is open for pieces, how
+/// many of its bytes were read, and its limit.
 #[derive(Drop)]
 pub struct RealFolder<'r, R: Files> {
     files: &'r R,
     alloc: Global,
     faults: u64,
-    // The file that is begun, until its end was met.
+    // The file that is open for pieces, until its end was met.
     begun: Option<R::File>,
     come: u64,
     most: u64,
@@ -39,7 +39,7 @@ impl<'r, R: Files> Model for RealFolder<'r, R> {
 }
 
 impl<'r, R: Files> RealFolder<'r, R> {
-    /// A folder with no fault so far. No file is begun.
+    /// Returns a folder with no fault so far and no open file.
     pub fn new(files: &'r R, alloc: Global) -> RealFolder<'r, R>
         ensures faults { result.faults ≡ 0 }
         ensures begun { result.begun ≡ false }
@@ -57,7 +57,7 @@ impl<'r, R: Files> RealFolder<'r, R> {
     }
 }
 
-/// The standard output. Contracts see it as its count of faults.
+/// The standard output. Contracts see its count of faults.
 #[derive(Drop)]
 pub struct RealSink<'r, R> {
     out: &'r R,
@@ -73,7 +73,7 @@ impl<'r, R> Model for RealSink<'r, R> {
 }
 
 impl<'r, R: Print> RealSink<'r, R> {
-    /// A sink with no fault so far.
+    /// Returns a sink with no fault so far.
     pub fn new(out: &'r R) -> RealSink<'r, R>
         ensures { result ≡ 0 }
     {
@@ -81,11 +81,11 @@ impl<'r, R: Print> RealSink<'r, R> {
     }
 }
 
-// Reads on to the end of the file, or one byte past the limit.
+// Reads to the end of the file, or to the first piece that exceeds the limit.
 fn read_all<F: Read>(file: &mut F, limit: u64, into: &mut Vec<u8>) -> Result<(), LoadErr>
     requires { into.old.items ≡ [] }
     ensures within { OnOk result (length into.new.items ≤ limit) }
-    // Where the reader tells what it has left, that is what is read.
+    // If the reader is modelled, all that it had left was read.
     ensures whole { OnOk result (IfSome (F.remaining file.old) (λ bytes. into.new.items ≡ bytes)) }
     ensures long { result ≡ Err LoadErr.TooLong → IfSome (F.remaining file.old) (λ bytes. limit < length bytes) }
 {
@@ -103,14 +103,14 @@ fn read_all<F: Read>(file: &mut F, limit: u64, into: &mut Vec<u8>) -> Result<(),
     Err(LoadErr::Failed)
 }
 
-// Reads the next piece of a file of which at most `room` bytes may come.
+// Reads the next piece of a file. At most `room` further bytes are allowed.
 fn read_piece<F: Read>(file: &mut F, room: u64, into: &mut Vec<u8>) -> Result<(), LoadErr>
     requires { into.old.items ≡ [] }
     ensures size { length into.new.items ≤ piece_size }
     ensures within { length into.new.items ≤ room }
     ensures near { result ≡ Err LoadErr.TooLong → room < piece_size }
     ensures empty { OnErr result (into.new.items ≡ []) }
-    // Where the reader tells what it has left, its first bytes are read, and none only at its end.
+    // If the reader is modelled, its next bytes were read, and none only at its end.
     ensures read { OnOk result (Consumes (F.remaining file.old) (F.remaining file.new) into.new.items) }
     ensures end { OnOk result (into.new.items ≡ [] → IfSome (F.remaining file.old) (λ bytes. bytes ≡ [])) }
     ensures long { result ≡ Err LoadErr.TooLong → IfSome (F.remaining file.old) (λ bytes. room < length bytes) }
@@ -125,7 +125,7 @@ fn read_piece<F: Read>(file: &mut F, room: u64, into: &mut Vec<u8>) -> Result<()
     Ok(())
 }
 
-// Whether a plain file has more bytes than this, as far as the system says. One that grows later is found too long when it is read.
+// Whether a plain file is longer than the limit, according to the system. If the file grows later, reading it reports `TooLong`.
 fn is_longer<F: OpenFile>(file: &F, limit: u64) -> bool {
     match file.metadata() {
         Ok(found) => found.is_file() && found.len() > limit,

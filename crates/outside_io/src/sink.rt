@@ -1,4 +1,4 @@
-//! What a program says: the trait `Sink`, and that a write of it failed.
+//! What a program prints: the trait `Sink`, and the error of a write.
 
 ghost use Rattle.std.specs.Prelude.{◌≡◌, ◌≤◌, ◌-◌, IsOk, OnOk, OnErr, length};
 ghost use Rattle.outside_io.specs.Faults.{HasRisen};
@@ -9,10 +9,9 @@ ghost use Rattle.outside_io.specs.Told.{SinkTold};
 #[derive(Clone, Copy, Debug, PartialEq, Eq)]
 pub struct Failed;
 
-/// Where a program writes what it says.
+/// The place to which a program prints.
 pub trait Sink {
-    /// The bytes written so far, where the sink tells them, how often the outside failed, and how many bytes more are surely
-    /// written.
+    /// The bytes written so far, in a modelled sink; the count of faults; and how many further bytes are certain to be written.
     ghost told: { Self → SinkTold };
 
     /// Writes these bytes. After an error some of them, from the first on, may have been written.

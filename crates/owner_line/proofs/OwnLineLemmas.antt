@@ -1,5 +1,5 @@
--- When a station of a live auction goes on air, by its owner's lines and the answers to its tests, and that no line of an
--- owners' file is of a round after the last fall.
+-- When a station of a live auction goes on air, by its owner's lines and the answers to its tests. An owners' file has no line of a
+-- round after the last fall.
 use Rattle.std.proofs.Common.{◌≡◌, ◌↔◌, ℕ, ◌+◌, ◌-◌, ◌<◌, ◌≤◌, Bool, true, false, not, ◌&&◌, ◌||◌, cond, eqb, ltb, ◌⊎◌, inl, inr, List, [], ◌∷◌, ◌++◌, Option, Some, None, Result, Ok, Err, Contains, refl, sym, ap, ◌∙◌, subst, arith, le_refl}
 use Rattle.std.specs.Bool.{MatchBool}
 use Rattle.std.specs.Option.{ok_or, option_map}
@@ -29,25 +29,25 @@ use Rattle.pack_defs.specs.Steps.{◌>>=◌}
 use Rattle.owner_line.specs.declared.error.OwnerWhy.{OwnerWhy}
 use Rattle.owner_line.specs.declared.error.OwnerWhy.TheVariants.{BadNumber, RoundRange, UnknownStation, BadWord, Repeated}
 
--- ---- a station is told something once a round, from round 1 on, until it is settled
+-- ---- a station gets one answer a round, from round 1 on, until it is settled
 
--- the answers are to tests of one round after another, from round k on
+-- The answers are to tests of consecutive rounds, from round k on.
 abbrev CountsFrom : ℕ → List Told → Type 0
 CountsFrom k [] = Unit {0}
 CountsFrom k (x ∷ xs) = (x.round ≡ k) × CountsFrom (k + 1) xs
 
 module _ (book : BookView) (undecided : List ClockTest) (sc : Scenario) (s : ℕ) where
-  -- a test that tells the station nothing
+  -- A test that gives the station no answer.
   untold : (t : ClockTest) (ts : List ClockTest) (st : ClockState) → (is_active st s && (eqb t.station s)) ≡ false → told_from sc book undecided (t ∷ ts) st s ≡ told_from sc book undecided ts (after_test sc book undecided st t) s
   untold t ts st unasked = cond-false (is_active st s && (eqb t.station s)) _ _ unasked
 
-  -- a station that isn't active is told nothing
+  -- A station that isn't active gets no answer.
   none-told : (ts : List ClockTest) (st : ClockState) → is_active st s ≡ false → told_from sc book undecided ts st s ≡ []
   none-told [] st idle = refl
   none-told (t ∷ ts) st idle =
       untold t ts st (ap (λ b. b && (eqb t.station s)) idle) ∙ none-told ts (after_test sc book undecided st t) (stays_inactive book undecided sc st t s idle)
 
-  -- the answers to one test a round are of one round after another
+  -- The answers to one test a round are of consecutive rounds.
   counts : (k : ℕ) (ts : List ClockTest) (st : ClockState) → OneEachRound s k ts → CountsFrom (k + 1) (told_from sc book undecided ts st s)
   counts k [] st each = tt
   counts k (t ∷ ts) st each =
@@ -63,7 +63,7 @@ module _ (book : BookView) (undecided : List ClockTest) (sc : Scenario) (s : ℕ
         | false ↦ λ idle. subst (λ xs. CountsFrom (k + 1) xs) (sym (none-told (t ∷ ts) st idle)) tt
       ]) refl
 
--- the answers to a bidder's tests are of one round after another, from the first on
+-- The answers to a bidder's tests are of consecutive rounds, from the first on.
 told-counts : (sc : Scenario) (book : BookView) (order : Order) (undecided : List ClockTest) (s : ℕ) → StationsAscend sc → Contains (facilities sc) s → declines sc s 0 ≡ false → CountsFrom 1 (told sc book order undecided s)
 unfolding told
 told-counts sc book order undecided s ascend known bids =
@@ -71,9 +71,9 @@ told-counts sc book order undecided s ascend known bids =
     (one_each_round s 0 (last_round sc) (bidders_in_turn sc order) (bidders-apart sc order ascend)
     (bidder-comes sc order s (is_in-from (bidders sc) s (Contains-filter (λ t. not (declines sc t 0)) (facilities sc) s known (ap not bids)))))
 
--- ---- the first round of leaving, among the rounds from k on
+-- ---- the first round without a line to stay, among the rounds from k on
 
--- `LeavesIn` and `FitsUpTo`, with k in the place of 1
+-- `LeavesIn` and `FitsUpTo`, with k in place of 1.
 record LeavesFrom (sc : Scenario) (lines : List OwnerLine) (s k r : ℕ) : Type 0 where
   pub begun : k ≤ r
   pub ended : r ≤ last_round sc
@@ -83,7 +83,7 @@ record LeavesFrom (sc : Scenario) (lines : List OwnerLine) (s k r : ℕ) : Type 
 abbrev FitsFrom : List Told → ℕ → ℕ → Type 0
 FitsFrom xs k r = (q : ℕ) → k ≤ q → q ≤ r → (x : Told) × Contains xs x × (x.round ≡ q) × (x.room ≡ true)
 
--- by these lines the station leaves in this round, if it is there
+-- By these lines the station leaves in this round.
 abbrev is_out : Scenario → List OwnerLine → ℕ → ℕ → Bool
 is_out sc lines s r = (eqb r (last_round sc)) || not (stays lines r s)
 
@@ -94,7 +94,7 @@ from-next k q within =
       | false ↦ λ other. let apart = eqb-false k q other in inr (omega (arith, apart, within))
     ]) refl
 
--- it goes on air at the first of some answers
+-- The station goes on air at the first of some answers.
 out-now : (sc : Scenario) (lines : List OwnerLine) (s k r : ℕ) (x : Told) (xs : List Told) → k ≤ last_round sc → x.round ≡ k → x.room ≡ true → is_out sc lines s x.round ≡ true → x.round ≡ r → LeavesFrom sc lines s k r × FitsFrom (x ∷ xs) k r
 out-now sc lines s k r x xs within at room out here = (
   record {
@@ -110,7 +110,7 @@ out-now sc lines s k r x xs within at room out here = (
   λ q from to. (x, Contains-here x xs, omega (arith, at, here, from, to), room),
 )
 
--- it stays at the first of some answers
+-- The station stays at the first of some answers.
 out-later : (sc : Scenario) (lines : List OwnerLine) (s k r : ℕ) (x : Told) (xs : List Told) → x.round ≡ k → x.room ≡ true → is_out sc lines s x.round ≡ false → LeavesFrom sc lines s (k + 1) r × FitsFrom xs (k + 1) r → LeavesFrom sc lines s k r × FitsFrom (x ∷ xs) k r
 out-later sc lines s k r x xs at room out later =
     let parts = or_parts (eqb x.round (last_round sc)) (not (stays lines x.round s)) out in
@@ -164,9 +164,9 @@ in-frost false = refl
 not-both : (s r : ℕ) (b : Bool) (row : ResultRow) → row.outcome ≡ cond b Undecided Frozen → Some row ≡ air s r → ⊥
 not-both s r b row outcome is = false≢true (sym (on-air (eqb r 0)) ∙ (sym (ap froze is) ∙ (ap is_frozen_outcome outcome ∙ in-frost b)))
 
--- ---- the row that the answers give
+-- ---- the row that the answers determine
 
--- a station that goes on air leaves then, and each of its tests fits
+-- A station that goes on air leaves in that round, and each of its tests fits.
 went : (sc : Scenario) (lines : List OwnerLine) (s k r : ℕ) (xs : List Told) → k ≤ last_round sc → CountsFrom k xs → row_told (with_owners sc (Some lines)) s xs ≡ air s r → LeavesFrom sc lines s k r × FitsFrom xs k r
 went sc lines s k r [] within counts is = absurd (false≢true (ap is_row is))
 went sc lines s k r (x ∷ xs) within counts is =
@@ -193,7 +193,7 @@ rounds-from k (x ∷ xs) y counts there =
       | inr later ↦ let above = rounds-from (k + 1) xs y counts.1 later in omega (arith, above)
     ]
 
--- of the first answer's round is no other answer
+-- No other answer has the first answer's round.
 first-fits : (k r : ℕ) (x : Told) (xs : List Told) → CountsFrom k (x ∷ xs) → k ≤ r → FitsFrom (x ∷ xs) k r → x.room ≡ true
 first-fits k r x xs counts begun fits =
     let (y, there, is, fit) = fits k (le_refl k) begun in
@@ -210,7 +210,7 @@ later-fits k r x xs at fits q from to =
       | inr later ↦ (y, later, is, fit)
     ]
 
--- where it is out, that is the round
+-- If the station leaves here, this is the round.
 out-here : (sc : Scenario) (lines : List OwnerLine) (s k r : ℕ) (x : Told) → x.round ≡ k → LeavesFrom sc lines s k r → is_out sc lines s x.round ≡ true → x.round ≡ r
 out-here sc lines s k r x at leaving out =
     elim (from-next k r leaving.begun) [
@@ -221,7 +221,7 @@ out-here sc lines s k r x at leaving out =
       ]
     ]
 
--- where it isn't, the round comes later
+-- If the station stays here, the round comes later.
 out-after : (sc : Scenario) (lines : List OwnerLine) (s k r : ℕ) (x : Told) → x.round ≡ k → LeavesFrom sc lines s k r → is_out sc lines s x.round ≡ false → LeavesFrom sc lines s (k + 1) r
 out-after sc lines s k r x at leaving out =
     let parts = or_parts (eqb x.round (last_round sc)) (not (stays lines x.round s)) out in
@@ -239,7 +239,7 @@ out-after sc lines s k r x at leaving out =
       stayed = λ q from before. leaving.stayed q (omega (arith, from)) before;
     }
 
--- a station that leaves then, and each of whose tests fits, goes on air
+-- A station that leaves in a round, and each of whose tests fits, goes on air.
 goes : (sc : Scenario) (lines : List OwnerLine) (s k r : ℕ) (xs : List Told) → CountsFrom k xs → LeavesFrom sc lines s k r → FitsFrom xs k r → row_told (with_owners sc (Some lines)) s xs ≡ air s r
 goes sc lines s k r [] counts leaving fits = let (y, there, is, fit) = fits k (le_refl k) leaving.begun in absurd (Contains-nil y there)
 goes sc lines s k r (x ∷ xs) counts leaving fits =
@@ -250,8 +250,8 @@ goes sc lines s k r (x ∷ xs) counts leaving fits =
       | false ↦ λ on. goes sc lines s (k + 1) r xs counts.1 (out-after sc lines s k r x counts.0 leaving on) (later-fits k r x xs counts.0 fits)
     ]) refl
 
--- A station outside the start set goes on air in a round exactly where that is the first one from 1 in which no line has it
--- stay, or else the last one, and each of its tests up to it fits.
+-- A station outside the start set goes on air in a round exactly if two conditions hold. The round is the first from 1 in which no
+-- line has the station stay, or else the last round. Each of its tests up to the round fits.
 pub exits-by_lines : (sc : Scenario) (lines : List OwnerLine) (book : BookView) (order : Order) (undecided : List ClockTest) (s r : ℕ) → StationsAscend sc → Contains (facilities sc) s → stays lines 0 s ≡ true →
     (row_of undecided (clock_rule (with_owners sc (Some lines)) book order undecided) s ≡ Some (on_air_row (record { station = s; round = r })))
     ↔ (LeavesIn sc lines s r × FitsUpTo (told (with_owners sc (Some lines)) book order undecided s) r)
@@ -267,7 +267,7 @@ exits-by_lines sc lines book order undecided s r ascend known stay =
 
 -- ---- the lines of a file
 
--- each line is of a round up to R
+-- Each line is of a round up to R.
 abbrev WithinRounds : ℕ → List OwnerLine → Type 0
 WithinRounds R lines = (x : OwnerLine) → Contains lines x → x.round ≤ R
 
@@ -354,7 +354,7 @@ file-within R ids said next at (line ∷ lines) within is =
       | Err why ↦ λ _ bad. absurd (refused _ next bad)
     ]) refl is
 
--- no line of a file is of a round above the last one in which the price falls
+-- A file has no line of a round after the last one in which the price falls.
 pub no_line_after : (bytes : List ℕ) (R : ℕ) (ids : List ℕ) (lines : List OwnerLine) (r s : ℕ) → owners_of bytes R ids ≡ Ok lines → R < r → stays lines r s ≡ false
 unfolding owners_of
 no_line_after bytes R ids lines r s is above = false_from_ne_true _ (λ stay.

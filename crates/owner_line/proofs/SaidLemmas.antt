@@ -1,4 +1,4 @@
--- What some records and lines say behind what was said, one after another, and that a refusal passes on.
+-- How records and lines extend the earlier lines, one after another, and that an error propagates.
 use Rattle.std.proofs.Common.{◌≡◌, ◌∙◌, ◌<◌, ◌≤◌, ◌+◌, ◌∷◌, [], ℕ, List, Ok, Err, refl, sym, ap, subst, length, map, drop, get_or}
 use Rattle.std.proofs.lemmas.List.{drop_all, drop_more, length-map}
 use Rattle.std.proofs.Math.ListN.{get_or-map}
@@ -12,20 +12,20 @@ use Rattle.owner_line.specs.declared.error.OwnerAddErr.TheVariants.{NoMemory, Re
 use Rattle.owner_line.specs.declared.error.OwnerErr.TheVariants.{Row}
 use Rattle.owner_line.specs.declared.error.OwnerWhy.{OwnerWhy}
 
--- what some records say, by the first of them
+-- The lines of some records, by the first of them.
 with-first : (R : ℕ) (ids : List ℕ) (said : List OwnerLine) (rs : List (List (List ℕ))) (i : ℕ) (r : List (List ℕ)) → i < length rs → r ≡ get_or rs i r
     → with_records R ids said (drop i rs) ≡ (with_record R ids said r >>= (λ next. with_records R ids next (drop (i + 1) rs)))
 unfolding with_records
 with-first R ids said rs i r h e = rw (drop_more rs i r h, ← e) refl
 
--- a record that is refused refuses all from it on
+-- An error of a record is the error of all records from it on.
 stops : (R : ℕ) (ids : List ℕ) (said new : List OwnerLine) (rs : List (List (List ℕ))) (i : ℕ) (r : List (List ℕ)) (e : OwnerAddErr) → i < length rs → r ≡ get_or rs i r
     → OwnerChanges (with_record R ids said r) new (Err e) → OwnerChanges (with_records R ids said (drop i rs)) new (Err e)
 stops R ids said new rs i r (Refused why) h is refused =
     with-first R ids said rs i r h is ∙ ap (λ o. o >>= (λ next. with_records R ids next (drop (i + 1) rs))) refused
 stops R ids said new rs i r NoMemory h is refused = tt
 
--- the same of records that are each made from an item of a list
+-- The same for records that are each made from an item of a list.
 module _ {X : Type 0} (own : X → List (List ℕ)) (R : ℕ) (ids : List ℕ) (xs : List X) where
   within : (i : ℕ) → i < length xs → i < length (map own xs)
   within i h = subst (λ n. i < n) (sym (length-map xs own)) h
@@ -42,24 +42,24 @@ module _ {X : Type 0} (own : X → List (List ℕ)) (R : ℕ) (ids : List ℕ) (
       with-first R ids said (map own xs) i (own x) (within i h) (at i x is)
       ∙ ap (λ o. o >>= (λ next. with_records R ids next (drop (i + 1) (map own xs)))) (ap (with_record R ids said) (sym same) ∙ taken)
 
-  -- no record is left
+  -- No record is left.
   pub none-own : (said : List OwnerLine) (i : ℕ) → length xs ≤ i → with_records R ids said (drop i (map own xs)) ≡ Ok said
   unfolding with_records
   none-own said i h = rw (drop_all i (map own xs) (subst (λ n. n ≤ i) (sym (length-map xs own)) h)) refl
 
--- what the lines of some bytes say, by the first of them
+-- The lines of some bytes, by the first of them.
 pub line-next : (R : ℕ) (ids : List ℕ) (said : List OwnerLine) (number : ℕ) (bytes line rest : List ℕ) → lines_of bytes ≡ line ∷ lines_of rest
     → with_file_lines R ids said number (lines_of bytes) ≡ after_owner_line number (with_records R ids said (line_records line)) (λ next. with_file_lines R ids next (number + 1) (lines_of rest))
 unfolding with_file_lines
 line-next R ids said number bytes line rest e = rw e refl
 
--- a line that is refused refuses all from it on
+-- An error of a line is the error of all lines from it on.
 pub line-stops : (R : ℕ) (ids : List ℕ) (said : List OwnerLine) (number : ℕ) (bytes line rest : List ℕ) (why : OwnerWhy) → lines_of bytes ≡ line ∷ lines_of rest
     → with_records R ids said (line_records line) ≡ Err why → with_file_lines R ids said number (lines_of bytes) ≡ Err (Row number why)
 line-stops R ids said number bytes line rest why first refused =
     line-next R ids said number bytes line rest first ∙ ap (λ o. after_owner_line number o (λ next. with_file_lines R ids next (number + 1) (lines_of rest))) refused
 
--- no bytes have no lines
+-- No bytes have no lines.
 pub lines-none : (R : ℕ) (ids : List ℕ) (said : List OwnerLine) (number : ℕ) → with_file_lines R ids said number (lines_of []) ≡ Ok said
 unfolding with_file_lines lines_of
 lines-none R ids said number = refl

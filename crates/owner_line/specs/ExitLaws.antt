@@ -1,4 +1,4 @@
--- A law of live auctions. It is proved in `src/laws`, beside one that is short enough to stand there.
+-- A law of live auctions. `src/laws` proves it, together with one that is short enough to be written out there.
 use Rattle.std.specs.Prelude.{◌≡◌, ◌↔◌, ℕ, List, Some, Contains, IsTrue}
 use Rattle.pack_defs.specs.Book.{BookView}
 use Rattle.pack_defs.specs.declared.order.Order.{Order}
@@ -11,8 +11,8 @@ use Rattle.pack_defs.specs.ResultRows.{on_air_row, row_of}
 use Rattle.pack_defs.specs.Told.{told}
 use Rattle.owner_line.specs.OwnLines.{FitsUpTo, LeavesIn, live_rule}
 
--- A station outside the start set goes on air in a round exactly where that is the first round from 1 in which no line has it
--- stay, or else the last one, and each of its tests up to that round was answered "fits".
+-- A station outside the start set goes on air in a round exactly if two conditions hold. The round is the first from 1 in which no
+-- line has the station stay, or else the last round; and each of its tests up to the round was answered "fits".
 abbrev pub ExitsByItsLines : Type 0
 ExitsByItsLines =
     (sc : Scenario) (lines : List OwnerLine) (book : BookView) (order : Order) (undecided : List ClockTest) (s r : ℕ) →

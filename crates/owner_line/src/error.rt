@@ -1,4 +1,4 @@
-//! Why an owners' file is refused.
+//! Why an owners' file is rejected.
 
 ghost use Rattle.std.specs.Prelude.{◌≡◌};
 ghost use Rattle.owner_line.specs.declared.error.OwnerAddErr.TheVariants.{NoMemory as NoRoom, Refused};
@@ -7,25 +7,25 @@ ghost use Rattle.owner_line.specs.declared.error.OwnerErr.TheVariants.{NoMemory}
 use std::alloc::{AllocError, AllocFailed};
 use thiserror::Error;
 
-/// Why a record of an owners' file is refused: the first that holds, in this order.
+/// Why a record of an owners' file is invalid: the first reason that applies, in this order.
 #[derive(Clone, Copy, Debug, PartialEq, Eq, Error)]
 pub enum OwnerWhy {
-    /// It has fewer fields than three, or more.
+    /// The record has fewer or more than three fields.
     #[error("not three fields")]
     Fields,
-    /// Its first or its second field isn't a number.
+    /// The first or the second field isn't a number.
     #[error("bad number")]
     BadNumber,
     /// The round is above the last one in which the price falls.
     #[error("round out of range")]
     RoundRange,
-    /// The auction has no such station.
+    /// The auction has no station of this number.
     #[error("unknown station")]
     UnknownStation,
-    /// Its third field is neither `stay` nor `leave`.
+    /// The third field is neither `stay` nor `leave`.
     #[error("bad word")]
     BadWord,
-    /// An earlier record is of the same round and station.
+    /// An earlier record has the same round and station.
     #[error("repeated")]
     Repeated,
 }
@@ -33,7 +33,7 @@ pub enum OwnerWhy {
 /// Why an owners' file was not read.
 #[derive(Clone, Copy, Debug, PartialEq, Eq)]
 pub enum OwnerErr {
-    /// A record is refused: the first one. It stands in this line, where the first line is 1.
+    /// A record is invalid: the first one, in this line. Lines are counted from 1.
     Row { line: u64, why: OwnerWhy },
     /// Memory ran out.
     NoMemory,
@@ -47,10 +47,10 @@ impl From<AllocError> for OwnerErr {
     }
 }
 
-/// Why a record was not taken.
+/// Why a record was not added.
 #[derive(Clone, Copy, Debug, PartialEq, Eq)]
 pub(crate) enum OwnerAddErr {
-    /// It is refused.
+    /// The record is invalid.
     Refused(OwnerWhy),
     /// Memory ran out.
     NoMemory,

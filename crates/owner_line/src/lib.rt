@@ -1,7 +1,11 @@
-//! What the owners of the stations say in a live auction, read from a file.
+//! The reader of an owners' file: the owners' lines of a live auction.
 //!
-//! It may call `pack_defs` and the lines and fields of `constraint_files`, and opens no file. Read `error` and `line` first, then
-//! `read`; what a line makes of a station is in `laws`.
+//! The crate may call `pack_defs` and the lines and fields of `constraint_files`, and opens no file. In reading order:
+//!
+//! - `error`: why a file is rejected.
+//! - `line`: the line of a record.
+//! - `read`: the reader of the file.
+//! - `laws`: what a line means for its station.
 #![tactic(auto)]
 
 pub mod error;

@@ -1,4 +1,4 @@
-//! The line that a record of an owners' file gives.
+//! The owner's line of a record.
 
 ghost use Rattle.std.specs.Prelude.{◌≡◌, map, true};
 ghost use Rattle.pack_defs.specs.Lists.{is_ascending};
@@ -9,7 +9,7 @@ use constraint_files::field::number;
 use pack_defs::numbers::is_in;
 use pack_defs::owners::OwnerLine;
 
-/// Whether a word says that a station stays.
+/// Returns whether a word says that a station stays; `None` for an unknown word.
 fn word_of(word: &[u8]) -> Option<bool>
     ensures { result ≡ word_of word.now }
 {
@@ -20,8 +20,10 @@ fn word_of(word: &[u8]) -> Option<bool>
     }
 }
 
-/// The line of this round, station and word, where the price falls in so many rounds and the auction has these
-/// stations.
+/// Returns the line of this round, station and word, in an auction with these stations whose price falls in `rounds` rounds.
+///
+/// # Errors
+/// Fails with the first error: a round out of range, an unknown station, or an unknown word.
 fn line_on(
     rounds: u32,
     ids: &[u32],
@@ -48,7 +50,10 @@ fn line_on(
     })
 }
 
-/// The line that a record gives: `round,facility,word`.
+/// Returns the line of a record: `round,facility,word`.
+///
+/// # Errors
+/// Fails with the record's first error.
 pub(crate) fn owner_line(
     rounds: u32,
     ids: &[u32],

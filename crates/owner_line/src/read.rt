@@ -1,5 +1,5 @@
-//! The reader of an owners' file: from its bytes to what the owners say, record after record. Its lines, records and
-//! numbers are those of the constraint files.
+//! The reader of an owners' file: from its bytes to the owners' lines, record after record. Its lines, records and numbers are those of
+//! the constraint files.
 
 ghost use Rattle.std.specs.Prelude.{◌≡◌, map, true};
 ghost use Rattle.constraint_files.specs.Records.{line_records};
@@ -13,7 +13,7 @@ use constraint_files::records::{fields, split_line};
 use pack_defs::owners::Owners;
 use std::alloc::Global;
 
-/// Adds what a record says. After an error the owners are lost.
+/// Adds the line of a record. After an error the owners are unusable.
 fn add_record(
     owners: &mut Owners,
     rounds: u32,
@@ -30,7 +30,7 @@ fn add_record(
     Ok(())
 }
 
-/// Adds what the records of a line of the file say. After an error the owners are lost.
+/// Adds the lines of the records of one line of the file. After an error the owners are unusable.
 fn add_line(
     alloc: Global,
     owners: &mut Owners,
@@ -48,18 +48,26 @@ fn add_line(
     Ok(())
 }
 
-/// Reads an owners' file, for an auction with these stations, ascending, whose price falls in so many rounds. Each of
-/// its records is `round,facility,word`: in this round, from 0, that of the opening price, to that of the last fall, the
-/// station stays in the clock (`stay`) or does not (`leave`). Without a record it does not. The owners have a line for
-/// each record, in the order of the file. Lines, records and numbers are those of the constraint files.
+/// Reads an owners' file, for an auction with these stations, ascending, whose price falls in `rounds` rounds.
 ///
-/// A record costs two searches by halves: one among the stations, and one among what is said already.
+/// Each record is `round,facility,word`. Rounds count from 0, the round of the opening price, to the round of the last fall. The
+/// station stays in the clock in this round (`stay`) or leaves (`leave`). Without a record it leaves. The owners have a line for each
+/// record, in file order. Lines, records and numbers are those of the constraint files.
+///
+/// A record costs a binary search among the stations, and lookups in a tree of the earlier lines.
 ///
 /// # Errors
 ///
-/// `Row` at the first record with a fault, with its line's number, counted from 1, and its first fault: not three
-/// fields, a round or a facility that is no number, a round above the last fall, a station that the auction doesn't
-/// have, another word, or an earlier record of the same round and station. `NoMemory` where memory runs out.
+/// `Row` at the first invalid record, with its line number, counted from 1, and its first error:
+///
+/// - fewer or more than three fields;
+/// - a round or a facility that is no number;
+/// - a round after the last fall;
+/// - an unknown station;
+/// - an unknown word;
+/// - an earlier record of the same round and station.
+///
+/// `NoMemory` if memory runs out.
 pub fn read_owners(
     alloc: Global,
     bytes: &[u8],

@@ -1,4 +1,4 @@
--- Lists in which each element comes before the next one: what stays so.
+-- Chains, lists in which each element comes before the next one: what keeps a list a chain.
 use Rattle.std.proofs.Common.{◌≡◌, ℕ, zero, suc, ◌<◌, Bool, true, false, cond, ◌&&◌, nat_lt, List, [], ◌∷◌, map, drop, filter, refl, sym, ap, ◌∙◌, arith, ltb-true, lt_trans}
 use Rattle.std.specs.Ordering.{is_lt}
 use Rattle.std.specs.declared.cmp.Ordering.{Ordering}
@@ -12,7 +12,7 @@ use Rattle.pack_defs.specs.Lists.{is_ascending}
 use Rattle.pack_defs.proofs.Searches.{pair_cmp}
 use Rattle.pack_defs.proofs.Words.{ascending-rest}
 
--- each element comes before the next one
+-- Each element comes before the next one.
 abbrev pub is_chain : {X : Type 0} → (X → X → Bool) → List X → Bool
 is_chain lt [] = true
 is_chain lt (x ∷ []) = true
@@ -28,7 +28,7 @@ is_chain-pairs [] = refl
 is_chain-pairs (p ∷ []) = refl
 is_chain-pairs (p ∷ q ∷ ps) = ap (λ b. comes_before p q && b) (is_chain-pairs (q ∷ ps))
 
--- the test passes along
+-- The relation is transitive, as Booleans.
 abbrev pub PassesAlong : {X : Type 0} → (X → X → Bool) → Type 0
 PassesAlong {X} lt = (x y z : X) → lt x y ≡ true → lt y z ≡ true → lt x z ≡ true
 
@@ -53,7 +53,7 @@ is_chain-kept lt t p x (y ∷ ys) h =
       | false ↦ is_chain-kept lt t p x ys (is_chain-skip lt t x y ys h)
     ]
 
--- some of a chain is one
+-- A filter of a chain is a chain.
 pub is_chain-filter : {X : Type 0} (lt : X → X → Bool) → PassesAlong lt → (p : X → Bool) (xs : List X) → is_chain lt xs ≡ true → is_chain lt (filter p xs) ≡ true
 is_chain-filter lt t p [] h = refl
 is_chain-filter lt t p (x ∷ xs) h =
@@ -90,13 +90,13 @@ pub pairs_ascend-filter : (p : Pair → Bool) (ps : List Pair) → pairs_ascend 
 pairs_ascend-filter p ps h =
     sym (is_chain-pairs (filter p ps)) ∙ is_chain-filter comes_before comes_before-passes p ps (is_chain-pairs ps ∙ h)
 
--- what is left of an ascending list ascends
+-- The rest of an ascending list ascends.
 pub ascending-drop : {X : Type 0} (key : X → ℕ) (n : ℕ) (xs : List X) → is_ascending (map key xs) ≡ true → is_ascending (map key (drop n xs)) ≡ true
 ascending-drop key zero xs h = h
 ascending-drop key (suc n) [] h = h
 ascending-drop key (suc n) (x ∷ xs) h = ascending-drop key n xs (ascending-rest (key x) (map key xs) h)
 
--- without the second number
+-- An ascending list without its second number ascends.
 pub ascending-skip : (x y : ℕ) (ys : List ℕ) → is_ascending (x ∷ y ∷ ys) ≡ true → is_ascending (x ∷ ys) ≡ true
 ascending-skip x y ys h =
     sym (is_chain-ascending (x ∷ ys)) ∙ is_chain-skip nat_lt nat_lt-passes x y ys (is_chain-ascending (x ∷ y ∷ ys) ∙ h)

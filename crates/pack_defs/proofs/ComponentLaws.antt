@@ -1,4 +1,4 @@
--- A component has just the stations that are reached, and a set fits where its component and what was on air fit.
+-- A component has exactly the stations that are reached. A set fits if its component and the stations that were on air fit.
 use Rattle.std.proofs.Common.{◌≡◌, ℕ, zero, suc, ◌<◌, ◌≤◌, Bool, true, false, ◌&&◌, ◌||◌, cond, eqb, ◌⊎◌, inl, inr, List, [], ◌∷◌, map, length, refl, sym, ◌∙◌, subst, arith, Contains, filter}
 use Rattle.std.specs.List.{list_any, list_all}
 use Rattle.std.proofs.lemmas.Bool.{true≢false, eqb-true, eq-eqb, and_parts, and_from, and_cases, or_cases, or_left, or_right, true_from_ne_false, false_from_ne_true, cond-true, cond-false, cases_Bool}
@@ -24,7 +24,7 @@ list_all-fails p (x ∷ xs) h =
       | inr l ↦ let r = list_all-fails p xs l in (r.0, Contains-there x r.0 xs r.1, r.2)
     ]
 
--- how many places of the set are among these
+-- How many places of the set hold one of these numbers.
 abbrev size_of : List ℕ → List ℕ → ℕ
 size_of set among = length (filter (λ t. is_in among t) set)
 
@@ -34,7 +34,7 @@ filter_no_longer p (x ∷ xs) =
     let rest = filter_no_longer p xs in
     elim (p x) as (λ b. length (cond b (x ∷ filter p xs) (filter p xs)) ≤ suc (length xs)) [ true ↦ omega arith | false ↦ omega arith ]
 
--- what passes one test passes the other: no fewer
+-- If each number that passes p passes q, no fewer pass q.
 pub filter_grows : (p q : ℕ → Bool) (xs : List ℕ) → ((x : ℕ) → p x ≡ true → q x ≡ true) → length (filter p xs) ≤ length (filter q xs)
 filter_grows p q [] h = omega arith
 filter_grows p q (x ∷ xs) h =
@@ -44,7 +44,7 @@ filter_grows p q (x ∷ xs) h =
       | false ↦ λ e. elim (q x) as (λ b. length (filter p xs) ≤ length (cond b (x ∷ filter q xs) (filter q xs))) [ true ↦ omega arith | false ↦ omega arith ]
     ]) refl
 
--- and where some element passes only the other, more
+-- If moreover some element passes only q, more pass q.
 pub filter_grows_by_one : (p q : ℕ → Bool) (xs : List ℕ) (y : ℕ) → ((x : ℕ) → p x ≡ true → q x ≡ true) → Contains xs y → p y ≡ false → q y ≡ true → length (filter p xs) < length (filter q xs)
 filter_grows_by_one p q [] y h l out new = absurd (Contains-nil y l)
 filter_grows_by_one p q (x ∷ xs) y h l out new =
@@ -62,7 +62,7 @@ filter_grows_by_one p q (x ∷ xs) y h l out new =
           ]) refl
     ]
 
--- where as many pass as there are, each passes
+-- If as many pass as the list has, each element passes.
 all_pass : (p : ℕ → Bool) (xs : List ℕ) (x : ℕ) → length xs ≤ length (filter p xs) → Contains xs x → p x ≡ true
 all_pass p xs x full there = true_from_ne_false _ (λ out.
     let more = filter_grows_by_one p (λ _. true) xs x (λ _ _. refl) there out refl in
@@ -70,7 +70,7 @@ all_pass p xs x full there = true_from_ne_false _ (λ out.
     omega (arith, full, more, most))
 
 module _ (book : BookView) (set : List ℕ) where
-  -- widening adds nothing
+  -- Widening adds nothing.
   record Closed (among : List ℕ) : Type 0 where
     nothing_new : (t : ℕ) → Contains (widened book set among) t → Contains among t
 
@@ -102,7 +102,7 @@ module _ (book : BookView) (set : List ℕ) where
         ];
   }
 
-  -- the stations of the set that s reaches are of the set
+  -- The stations of the set that s reaches are in the set.
   within-set : (s n t : ℕ) → Contains (within book set s n) t → Contains set t
   within-set s zero t h = (Contains-from_filter (λ u. eqb u s) set t h).0
   within-set s (suc n) t h = (widened-gives (within book set s n) t h).0
@@ -123,7 +123,7 @@ module _ (book : BookView) (set : List ℕ) where
         ]
       ]
 
-  -- the component is closed
+  -- The component is closed.
   component-closed : (s : ℕ) → Closed (component book set s)
   unfolding component
   component-closed s =
@@ -147,7 +147,7 @@ module _ (book : BookView) (set : List ℕ) where
   unfolding component
   component-start s there = within-start s (length set) there
 
-  -- a station of the set that interferes with one of the component is in it
+  -- A station of the set that interferes with one of the component is in it.
   pub component-next : (s t u : ℕ) → Contains (component book set s) t → Contains set u → interferes book t u ≡ true → Contains (component book set s) u
   component-next s t u from there joined = (component-closed s).nothing_new u (widened-has (component book set s) t u there from joined)
 
@@ -161,7 +161,7 @@ module _ (book : BookView) (set : List ℕ) where
         | inr (u, from, joined) ↦ next (within-reaches s n u from) there joined
       ]
 
-  -- the component has just the stations that s reaches
+  -- The component has just the stations that s reaches.
   pub component-gives : (s t : ℕ) → Contains (component book set s) t → Reaches book set s t
   unfolding component
   component-gives s t h = within-reaches s (length set) t h
@@ -170,7 +170,7 @@ module _ (book : BookView) (set : List ℕ) where
   component-from s t start here = component-start s start
   component-from s t start (next {t = u} before there joined) = component-next s u t (component-from s u start before) there joined
 
--- a forbidden couple of entries is of two stations that interfere
+-- A forbidden pair of entries belongs to two stations that interfere.
 forbidden_interferes : (book : BookView) (x y : ℕ × ℕ) → is_forbidden book x y ≡ true → interferes book x.0 y.0 ≡ true
 forbidden_interferes book x y h =
     let (p, listed, joined) = list_any-gives (λ q. joins q x y) book.pairs h in
@@ -192,7 +192,7 @@ interferes_flips book s t h =
 
 -- ---- a set fits where its component fits, and what was on air before
 
--- an entry of the component's map, or one of a station outside the component, of the other map
+-- An entry of the component's map, or an entry of the other map whose station is outside the component.
 record Chosen (inside : List ℕ) (set : List ℕ) (m n : List (ℕ × ℕ)) (x : ℕ × ℕ) : Type 0 where
   where_from : (Contains inside x.0 × Contains m x) ⊎ ((is_in inside x.0 ≡ false) × Contains n x × Contains set x.0)
 
@@ -257,7 +257,7 @@ component_enough book on set s start before fit_on fit_in =
       };
     }
 
--- where the set is what fits already and s, it fits just where the component of s does
+-- Where the set is what fits already and s, it fits just where the component of s does.
 pub component_decides : (book : BookView) (on set : List ℕ) (s : ℕ) → Contains set s → ((t : ℕ) → Contains set t → (t ≡ s) ⊎ Contains on t) → fits book on ≡ true → fits book set ≡ fits book (component book set s)
 component_decides book on set s start before on_fits =
     (elim (fits book (component book set s)) as (λ b. fits book (component book set s) ≡ b → fits book set ≡ b) [
@@ -266,7 +266,7 @@ component_decides book on set s start before on_fits =
           true≢false (sym (fits-from book _ (part_fits book set (component book set s) (component-within book set s) (fits-gives book set whole))) ∙ inside))
     ]) refl
 
--- a test of the clock asks no more than whether the component of its station fits
+-- A test of the clock asks no more than whether the component of its station fits.
 pub test_by_component : (sc : Scenario) (book : BookView) (state : ClockState) (s : ℕ) → Contains (facilities sc) s → fits book (on_air_set sc state) ≡ true →
     fits book (asked_set sc state s) ≡ fits book (component book (asked_set sc state s) s)
 test_by_component sc book state s there on_fits =
@@ -280,7 +280,7 @@ test_by_component sc book state s there on_fits =
     ])
     on_fits
 
--- a component ascends as its set does
+-- A component ascends as its set does.
 pub within-ascends : (book : BookView) (set : List ℕ) (s n : ℕ) → is_ascending set ≡ true → is_ascending (within book set s n) ≡ true
 within-ascends book set s zero a = ascending-filter _ set a
 within-ascends book set s (suc n) a = ascending-filter _ set a

@@ -1,4 +1,4 @@
--- The stations that interfere with one are the other stations of its pairs.
+-- The stations that interfere with a station are the other stations of its pairs.
 use Rattle.std.proofs.Common.{◌≡◌, ℕ, Bool, true, false, cond, ◌==◌, ◌&&◌, ◌||◌, List, [], ◌∷◌, ◌++◌, map, filter, refl, sym, ap, ap₂, ◌∙◌}
 use Rattle.std.specs.List.{list_any}
 use Rattle.std.proofs.lemmas.List.Folds.{list_any-append}
@@ -7,7 +7,7 @@ use Rattle.pack_defs.specs.Lists.{is_in}
 use Rattle.pack_defs.proofs.BookLemmas.{list_any-or, list_any-same}
 use Rattle.pack_defs.proofs.Words.{list_any-map}
 
--- the pair is of these two stations
+-- Whether the pair has these two stations, in this order.
 abbrev is_edge : ℕ → ℕ → Pair → Bool
 is_edge s t p = ((p.f == s) && (p.g == t)) || ((p.f == t) && (p.g == s))
 
@@ -19,7 +19,7 @@ list_any-filter p q (x ∷ xs) =
       | false ↦ list_any-filter p q xs
     ]
 
--- the same two ways, named in the other order
+-- The same disjunction with the stations swapped.
 either_order : (fs gt gs ft : Bool) → ((gs && ft) || (fs && gt)) ≡ ((fs && gt) || (ft && gs))
 either_order true true true true = refl
 either_order true true true false = refl
@@ -34,7 +34,7 @@ either_order false gt true false = refl
 either_order false gt false true = refl
 either_order false gt false false = refl
 
--- a key of a station's pairs
+-- The other stations of the pairs with this station, by one key.
 other-in : (own other : Pair → ℕ) (pairs : List Pair) (s t : ℕ) → is_in (map other (filter (λ p. own p == s) pairs)) t ≡ list_any (λ p. (own p == s) && (other p == t)) pairs
 other-in own other pairs s t =
     list_any-map (λ y. y == t) other (filter (λ p. own p == s) pairs) ∙ list_any-filter (λ p. own p == s) (λ p. other p == t) pairs

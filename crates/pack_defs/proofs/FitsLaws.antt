@@ -1,4 +1,4 @@
--- The test `fits` answers true exactly where some clean map has the stations, and a part of what fits, fits.
+-- `fits` returns true exactly if some clean map has the stations, and a subset of what fits, fits.
 use Rattle.std.proofs.Common.{◌≡◌, ℕ, Bool, true, false, cond, inl, inr, List, [], ◌∷◌, map, refl, sym, ap, subst, Contains}
 use Rattle.std.specs.List.{list_any, list_all}
 use Rattle.std.proofs.lemmas.Bool.{false≢true, true≢false}
@@ -6,11 +6,11 @@ use Rattle.pack_defs.specs.Book.{BookView, domain_of, is_forbidden}
 use Rattle.pack_defs.specs.Packing.{Fits, assignments, is_apart, fits}
 use Rattle.pack_defs.proofs.Members.{Contains-here, Contains-there, Contains-cons_cases, Contains-nil, Contains-map, Contains-from_map, Contains-flat_map, Contains-from_flat_map, list_any-from, list_any-gives, list_all-from, list_all-gives}
 
--- each entry is on a channel of its station's domain
+-- Each entry is on a channel of its station's domain.
 pub record OnDomains (book : BookView) (entries : List (ℕ × ℕ)) : Type 0 where
   pub each : (x : ℕ × ℕ) → Contains entries x → Contains (domain_of book x.0) x.1
 
--- what `assignments` lists has these stations, each on a channel of its domain
+-- Each map of `assignments` has these stations, each on a channel of its domain.
 pub assignments-gives : (book : BookView) (set : List ℕ) (m : List (ℕ × ℕ)) → Contains (assignments book set) m → (map (λ x. x.0) m ≡ set) × OnDomains book m
 unfolding assignments
 assignments-gives book [] m h =
@@ -33,7 +33,7 @@ assignments-gives book (s ∷ set) m h =
       },
     )
 
--- every such map is listed
+-- `assignments` lists every map whose entries are on channels of their domains.
 assignments-has : (book : BookView) (m : List (ℕ × ℕ)) → OnDomains book m → Contains (assignments book (map (λ x. x.0) m)) m
 unfolding assignments
 assignments-has book [] h = Contains-here [] []
@@ -43,7 +43,7 @@ assignments-has book (x ∷ m) h =
     (Contains-map (λ rest. (x.0, x.1) ∷ rest) (assignments book (map (λ y. y.0) m)) m
     (assignments-has book m (record { each = λ y l. h.each y (Contains-there x y m l) })))
 
--- the test of a clean map's second half
+-- The second half of the test of a clean map.
 refused : (b : Bool) → (if_not : cond b false true ≡ true) → b ≡ false
 refused true h = absurd (false≢true h)
 refused false h = refl
@@ -62,7 +62,7 @@ unfolding is_apart
 is_apart-from book m h =
     list_all-from (λ w. list_all (λ z. cond (is_forbidden book w z) false true) m) m (λ x in_x. list_all-from (λ z. cond (is_forbidden book x z) false true) m (λ y in_y. allowed (is_forbidden book x y) (h x y in_x in_y)))
 
--- where the test answers true, a clean map has these stations
+-- If `fits` returns true, a clean map has these stations.
 pub fits-gives : (book : BookView) (set : List ℕ) → fits book set ≡ true → Fits book set
 unfolding fits
 fits-gives book set h =
@@ -70,7 +70,7 @@ fits-gives book set h =
     let is = assignments-gives book set m listed in
     record { entries = m; stations = is.0; clean = record { on_domain = is.1.each; apart = is_apart-gives book m apart } }
 
--- and where a clean map has them, the test answers true
+-- If a clean map has the stations, `fits` returns true.
 pub fits-from : (book : BookView) (set : List ℕ) → Fits book set → fits book set ≡ true
 unfolding fits
 fits-from book set h =
@@ -79,7 +79,7 @@ fits-from book set h =
     (assignments-has book h.entries (record { each = h.clean.on_domain }))
     (is_apart-from book h.entries h.clean.apart))
 
--- the entries of these stations, each of which the map has
+-- The map's entries of these stations.
 part_of : (m : List (ℕ × ℕ)) (part : List ℕ) → ((s : ℕ) → Contains part s → Contains (map (λ x. x.0) m) s) → (entries : List (ℕ × ℕ)) × (map (λ x. x.0) entries ≡ part) × ((x : ℕ × ℕ) → Contains entries x → Contains m x)
 part_of m [] h = ([], refl, λ x l. absurd (Contains-nil x l))
 part_of m (s ∷ part) h =
@@ -93,7 +93,7 @@ part_of m (s ∷ part) h =
       ],
     )
 
--- some of the stations of a set that fits, in any order, fit
+-- Some of the stations of a set that fits, in any order, fit.
 pub part_fits : (book : BookView) (set part : List ℕ) → ((s : ℕ) → Contains part s → Contains set s) → Fits book set → Fits book part
 part_fits book set part h fit =
     let (entries, stations, within) = part_of fit.entries part (λ s l. subst (λ z. Contains z s) (sym fit.stations) (h s l)) in
@@ -106,6 +106,6 @@ part_fits book set part h fit =
       };
     }
 
--- the same of the test
+-- The same law for the test `fits`.
 pub part_fits_test : (book : BookView) (set part : List ℕ) → ((s : ℕ) → Contains part s → Contains set s) → fits book set ≡ true → fits book part ≡ true
 part_fits_test book set part h t = fits-from book part (part_fits book set part h (fits-gives book set t))

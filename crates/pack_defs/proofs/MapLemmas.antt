@@ -1,4 +1,4 @@
--- What channel maps say of a station's channel, and of a map that overwrites another.
+-- What channel maps say about a station's channel, and about a map that overwrites another.
 use Rattle.std.proofs.Common.{◌≡◌, ℕ, ◌+◌, ◌<◌, ◌≤◌, Bool, true, false, cond, ◌==◌, ◌&&◌, ◌||◌, nat_eq, nat_lt, List, [], ◌∷◌, ◌++◌, ◌-◌, map, take, take_all, drop, length, length-drop, get_or, Option, Some, None, Contains, ◌⊎◌, inl, inr, refl, sym, subst, ap, ap₂, ◌∙◌, append_assoc, append-nil, arith, ⊎_elim, eqb-true, eq-eqb, ne_eqb, ltb-true}
 use Rattle.std.proofs.lemmas.Bool.{and_parts, and_from, cases_order, or_cases, or_left, or_right, or_parts, cond-true, cond-false, lt-ltb, le-ltb, false≢true, false_from_ne_true}
 use Rattle.std.specs.Option.{option_eq}
@@ -10,11 +10,11 @@ use Rattle.pack_defs.proofs.Chains.{ascending-drop, ascending-skip}
 use Rattle.pack_defs.proofs.Members.{Contains-cons_cases, Contains-map, Contains-nil, is_in-from}
 use Rattle.pack_defs.proofs.Words.{Contains-from_has_entry, below-later, ascending-rest, entry}
 
--- the stations of a map
+-- The stations of a map.
 abbrev pub stations : List (ℕ × ℕ) → List ℕ
 stations xs = map (λ x. x.0) xs
 
--- the channel of an entry of an ascending map
+-- The channel of an entry of an ascending map.
 pub channel_of-at : (xs : List (ℕ × ℕ)) (x : ℕ × ℕ) → IsAscending xs → Contains xs x → channel_of x.0 xs ≡ Some x.1
 channel_of-at [] x a h = absurd (Contains-nil x h)
 channel_of-at (y ∷ ys) x a h =
@@ -26,21 +26,21 @@ channel_of-at (y ∷ ys) x a h =
           ∙ channel_of-at ys x (ascending-rest y.0 (stations ys) a) l
     ]
 
--- that of the entry at a place
+-- The channel of the entry at a place.
 pub channel_of-found : (xs : List (ℕ × ℕ)) (f i : ℕ) (x : ℕ × ℕ) → IsAscending xs → i < length xs → x ≡ get_or xs i x → (get_or xs i x).0 ≡ f → Some x.1 ≡ channel_of f xs
 channel_of-found xs f i x a l is own =
     let here : channel_of x.0 xs ≡ Some x.1 = channel_of-at xs x a (i, l, sym is) in
     let same : x.0 ≡ f = ap (λ y. y.0) is ∙ own in
     sym here ∙ ap (λ g. channel_of g xs) same
 
--- none where the map hasn't the station
+-- A map without the station has no channel of it.
 pub channel_of-none : (xs : List (ℕ × ℕ)) (f : ℕ) → is_in (stations xs) f ≡ false → channel_of f xs ≡ None
 channel_of-none [] f h = refl
 channel_of-none (x ∷ xs) f h =
     let parts = or_parts (x.0 == f) (is_in (stations xs) f) h in
     cond-false (x.0 == f) (Some x.1) (channel_of f xs) parts.0 ∙ channel_of-none xs f parts.1
 
--- where the entry goes: before the first one, in its place, or behind it
+-- The three places of a put entry: before the first entry, in its place, or behind it.
 pub put-before : (x y : ℕ × ℕ) (ys : List (ℕ × ℕ)) → x.0 < y.0 → put x (y ∷ ys) ≡ x ∷ y ∷ ys
 put-before x y ys l = cond-true (nat_lt x.0 y.0) _ _ (lt-ltb x.0 y.0 l)
 
@@ -52,20 +52,20 @@ pub put-behind : (x y : ℕ × ℕ) (ys : List (ℕ × ℕ)) → y.0 < x.0 → p
 put-behind x y ys l =
     cond-false (nat_lt x.0 y.0) _ _ (le-ltb x.0 y.0 (omega arith)) ∙ cond-false (x.0 == y.0) _ _ (ne_eqb x.0 y.0 (λ e. omega arith))
 
--- an entry that is below all of the other map stays first
+-- An entry below all of the other map stays first.
 pub overlaid-first : (x : ℕ × ℕ) (xs over : List (ℕ × ℕ)) → is_ascending (x.0 ∷ stations over) ≡ true → overlaid (x ∷ xs) over ≡ x ∷ overlaid xs over
 overlaid-first x xs [] a = refl
 overlaid-first x xs (y ∷ ys) a =
     let less : x.0 < y.0 = ltb-true x.0 y.0 (and_parts (nat_lt x.0 y.0) (is_ascending (stations (y ∷ ys))) a).0 in
     ap (λ m. overlaid m ys) (put-behind y x xs less) ∙ overlaid-first x (put y xs) ys (ascending-skip x.0 y.0 (stations ys) a)
 
--- over no entry at all
+-- Overwriting the empty map.
 pub overlaid-none : (over : List (ℕ × ℕ)) → IsAscending over → overlaid [] over ≡ over
 overlaid-none [] a = refl
 overlaid-none (y ∷ ys) a =
     overlaid-first y [] ys a ∙ ap (λ (m : List (ℕ × ℕ)). y ∷ m) (overlaid-none ys (ascending-rest y.0 (stations ys) a))
 
--- of two first entries the lower one stays first, and of two of one station the second map's stays
+-- The lower of two first entries stays first; if both have one station, the second map's entry stays.
 pub overlaid-below : (x y : ℕ × ℕ) (xs ys : List (ℕ × ℕ)) → IsAscending (y ∷ ys) → x.0 < y.0 → overlaid (x ∷ xs) (y ∷ ys) ≡ x ∷ overlaid xs (y ∷ ys)
 overlaid-below x y xs ys a l =
     overlaid-first x xs (y ∷ ys) (and_from (nat_lt x.0 y.0) (is_ascending (stations (y ∷ ys))) (lt-ltb x.0 y.0 l) a)
@@ -76,7 +76,7 @@ overlaid-same x y xs ys a e = ap (λ m. overlaid m ys) (put-here y x xs (sym e))
 pub overlaid-above : (x y : ℕ × ℕ) (xs ys : List (ℕ × ℕ)) → IsAscending (y ∷ ys) → y.0 < x.0 → overlaid (x ∷ xs) (y ∷ ys) ≡ y ∷ overlaid (x ∷ xs) ys
 overlaid-above x y xs ys a l = ap (λ m. overlaid m ys) (put-before y x xs l) ∙ overlaid-first y (x ∷ xs) ys a
 
--- an entry put among those above b leaves them above b
+-- An entry above b put among entries above b leaves all above b.
 put-above : (b : ℕ) (x : ℕ × ℕ) (xs : List (ℕ × ℕ)) → is_ascending (b ∷ stations xs) ≡ true → b < x.0 → is_ascending (b ∷ stations (put x xs)) ≡ true
 put-above b x [] a l = and_from (nat_lt b x.0) true (lt-ltb b x.0 l) refl
 put-above b x (y ∷ ys) a l =
@@ -104,17 +104,17 @@ put-ascending x (y ∷ ys) a =
       ]
     ]
 
--- a map that is overwritten ascends still
+-- A map that is overwritten still ascends.
 pub overlaid-ascending : (xs over : List (ℕ × ℕ)) → IsAscending xs → IsAscending (overlaid xs over)
 overlaid-ascending xs [] a = a
 overlaid-ascending xs (y ∷ ys) a = overlaid-ascending (put y xs) ys (put-ascending y xs a)
 
--- a later station of the list
+-- A greater station is later in the list.
 later : (y : ℕ × ℕ) (ys : List (ℕ × ℕ)) (s : ℕ) → is_in (stations (y ∷ ys)) s ≡ true → y.0 < s → is_in (stations ys) s ≡ true
 later y ys s h l =
     ⊎_elim (λ e. let same : y.0 ≡ s = eqb-true y.0 s e in absurd (omega arith)) (λ r. r) (or_cases (y.0 == s) (is_in (stations ys) s) h)
 
--- overwritten by a map that has all its stations, a map is that one
+-- A map that is overwritten by a map with all its stations is that map.
 pub overlaid-all : (xs over : List (ℕ × ℕ)) → IsAscending xs → IsAscending over → ((s : ℕ) → is_in (stations xs) s ≡ true → is_in (stations over) s ≡ true) → overlaid xs over ≡ over
 overlaid-all [] over a b has = overlaid-none over b
 overlaid-all (x ∷ xs) [] a b has = absurd (false≢true (has x.0 (or_left (x.0 == x.0) (is_in (stations xs) x.0) (eq-eqb x.0 x.0 refl))))
@@ -137,7 +137,7 @@ overlaid-all (x ∷ xs) (y ∷ ys) a b has =
       ]
     ]
 
--- what is left of a list from j on begins with its element there, and ascends where the list does
+-- The rest of a list from j on begins with the list's element at j, and ascends if the list does.
 left-ascends : (ys : List (ℕ × ℕ)) (j : ℕ) → IsAscending ys → j < length ys → IsAscending (get_or ys j (0, 0) ∷ drop (j + 1) ys)
 left-ascends ys j a l = subst IsAscending (drop_more ys j (0, 0) l) (ascending-drop (λ x. x.0) j ys a)
 
@@ -147,7 +147,7 @@ lefts xs ys i j l m = ap₂ overlaid (drop_more xs i (0, 0) l) (drop_more ys j (
 one-more : (done left rest all : List (ℕ × ℕ)) (x : ℕ × ℕ) → left ≡ x ∷ rest → done ++ left ≡ all → (done ++ x ∷ []) ++ rest ≡ all
 one-more done left rest all x e h = append_assoc done (x ∷ []) rest ∙ ap (λ r. done ++ r) (sym e) ∙ h
 
--- One step of a merge: the lower of the two first entries goes to what is done, and of two of one station the second.
+-- One step of a merge: the lower of the two first entries is done next; if both have one station, the second list's entry.
 pub merged-below : (done xs ys all : List (ℕ × ℕ)) (i j : ℕ) → IsAscending ys → i < length xs → j < length ys → (get_or xs i (0, 0)).0 < (get_or ys j (0, 0)).0 → done ++ overlaid (drop i xs) (drop j ys) ≡ all → (done ++ get_or xs i (0, 0) ∷ []) ++ overlaid (drop (i + 1) xs) (drop j ys) ≡ all
 merged-below done xs ys all i j a l m less h =
     let x = get_or xs i (0, 0) in
@@ -174,7 +174,7 @@ merged-above done xs ys all i j a l m more h =
 whole-left : (xs : List (ℕ × ℕ)) (i : ℕ) → take (length xs - i) (drop i xs) ≡ drop i xs
 whole-left xs i = take_all (length xs - i) (drop i xs) (omega (arith, length-drop i xs))
 
--- Its end: what is left of the one list or of the other.
+-- The end of a merge: the rest of the one list or of the other.
 pub merged-end : (done xs ys all : List (ℕ × ℕ)) (i j : ℕ) → IsAscending ys → (length xs ≤ i) ⊎ (length ys ≤ j) → done ++ overlaid (drop i xs) (drop j ys) ≡ all → (done ++ take (length xs - i) (drop i xs)) ++ take (length ys - j) (drop j ys) ≡ all
 merged-end done xs ys all i j a past h =
     let rest : overlaid (drop i xs) (drop j ys) ≡ drop i xs ++ drop j ys = elim past [
@@ -183,9 +183,9 @@ merged-end done xs ys all i j a past h =
     ] in
     rw (whole-left xs i, whole-left ys j) (append_assoc done (drop i xs) (drop j ys) ∙ ap (λ r. done ++ r) (sym rest) ∙ h)
 
--- ---- whether an entry stands in a map
+-- ---- whether a map has an entry
 
--- the entry stands in the map where its channel is the station's, and not where that is another one or none
+-- The map has the entry if its channel is the station's, and lacks it if the station has another channel or none.
 pub stands-where : (s c : ℕ) (m : List (ℕ × ℕ)) → channel_of s m ≡ Some c → has_entry m (s, c) ≡ true
 stands-where s c [] e = cc
 stands-where s c (x ∷ xs) e =

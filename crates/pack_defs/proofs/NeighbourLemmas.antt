@@ -1,4 +1,4 @@
--- The lists of neighbours: how one is put together, and that it is what the book says.
+-- The lists of neighbours: how one is built, and that it is what the book says.
 use Rattle.std.proofs.Common.{◌≡◌, ℕ, zero, suc, ◌+◌, ◌<◌, ◌≤◌, Bool, true, false, ◌==◌, ◌&&◌, ◌||◌, nat_lt, List, [], ◌∷◌, ◌++◌, map, filter, take, take_all, length, get_or, inl, inr, refl, sym, subst, ap, ◌∙◌, arith, eqb-true}
 use Rattle.std.specs.List.{insert, list_all}
 use Rattle.std.specs.List.Sorted.{IsPartitionPoint}
@@ -22,7 +22,7 @@ use Rattle.pack_defs.proofs.EdgeLemmas.{others-interfere}
 use Rattle.pack_defs.proofs.Members.{Contains-filter, Contains-from_filter, is_in-from, is_in-gives, list_all-gives, list_any-gives}
 use Rattle.pack_defs.proofs.Words.{same-ascending}
 
--- ---- one station more in an ascending list
+-- ---- one more station in an ascending list
 
 or_there : (a b : Bool) → (b ≡ true → a ≡ true) → a ≡ (a || b)
 or_there true b h = refl
@@ -44,7 +44,7 @@ or_later false b c = refl
 pub also-none : (xs : List ℕ) → is_ascending xs ≡ true → HasAlso xs [] xs
 also-none xs a = record { ascends = a; same = λ t. sym (or-false (is_in xs t)) }
 
--- one that the list has already
+-- A station that the list already has.
 pub also-there : (xs : List ℕ) (x : ℕ) → is_ascending xs ≡ true → is_in xs x ≡ true → HasAlso xs (x ∷ []) xs
 also-there xs x a h = record {
   ascends = a;
@@ -83,11 +83,11 @@ insert-in x [] (suc n) t = refl
 insert-in x (y ∷ ys) zero t = or_moved (x == t) (y == t) (is_in ys t)
 insert-in x (y ∷ ys) (suc n) t = ap (λ b. (y == t) || b) (insert-in x ys n t) ∙ sym (or_later (y == t) (is_in ys t) (x == t))
 
--- a new one
+-- A new station.
 pub also-new : (xs : List ℕ) (x n : ℕ) → n ≤ length xs → IsPartitionPoint (λ y. nat_cmp y x ≡ Less) (λ y. nat_cmp y x ≡ Greater) xs n → is_ascending xs ≡ true → HasAlso xs (x ∷ []) (insert xs n x)
 also-new xs x n l h a = record { ascends = insert-ascends x xs n l h a; same = λ t. insert-in x xs n t }
 
--- the pair at the loop's place
+-- The pair of the loop's current step.
 pub also-next : (key : Pair → ℕ) (pairs : List Pair) (i : ℕ) (d : Pair) (old mid new : List ℕ) → i < length pairs → HasAlso old (map key (take i pairs)) mid → HasAlso mid (key (get_or pairs i d) ∷ []) new → HasAlso old (map key (take (i + 1) pairs)) new
 also-next key pairs i d old mid new l before one =
     let more : List ℕ = map key (take i pairs) in
@@ -100,7 +100,7 @@ also-next key pairs i d old mid new l before one =
           ∙ ap (λ b. is_in old t || b) (sym (list_any-append (λ y. y == t) more (x ∷ [])) ∙ ap (λ ys. is_in ys t) (sym whole));
     }
 
--- first and second stations of a station's pairs
+-- The first and second stations of a station's pairs.
 pub list-for : (pairs : List Pair) (s : ℕ) (firsts near : List ℕ) → HasAlso [] (map (λ p. p.f) (filter (λ p. p.g == s) pairs)) firsts → HasAlso firsts (map (λ p. p.g) (filter (λ p. p.f == s) pairs)) near → IsListFor pairs s near
 list-for pairs s firsts near one two =
     let to : List ℕ = map (λ p. p.f) (filter (λ p. p.g == s) pairs) in
@@ -119,7 +119,7 @@ station-there ds s c h =
       | inr out ↦ absurd (false≢true (sym (ap (λ cs. is_in cs c) (channels_in-none ds s out)) ∙ h))
     ]
 
--- both stations of a pair of the book are stations of the book
+-- Both stations of a pair of the book are stations of the book.
 both-there : (ds : List Domain) (p : Pair) → is_within ds p ≡ true → (is_in (map (λ d. d.station) ds) p.f ≡ true) × (is_in (map (λ d. d.station) ds) p.g ≡ true)
 both-there ds p h =
     let parts = and_parts (is_in (channels_in ds p.f) p.a) _ h in (station-there ds p.f p.a parts.0, station-there ds p.g p.b parts.1)
@@ -145,7 +145,7 @@ neighbour-from : (book : BookView) (s t : ℕ) → list_all (is_within book.doma
 neighbour-from book s t w h =
     is_in-from (neighbours_of book s) t (Contains-filter (λ u. interferes book s u) (stations_of book) t (is_in-gives (stations_of book) t (edge-there book s t w h).1) h)
 
--- a station is a neighbour where the two interfere
+-- A station is a neighbour exactly if the two interfere.
 pub neighbours-are : (book : BookView) (s t : ℕ) → IsInOrder book → is_in (neighbours_of book s) t ≡ interferes book s t
 neighbours-are book s t o =
     elim (cases_Bool (interferes book s t)) [
@@ -156,13 +156,13 @@ neighbours-are book s t o =
       ]
     ]
 
--- the list that was put together is the station's
+-- The list that was built is the station's.
 pub list-is : (book : BookView) (s : ℕ) (near : List ℕ) → AreInOrder book.domains → list_all (is_within book.domains) book.pairs ≡ true → IsListFor book.pairs s near → near ≡ neighbours_of book s
 list-is book s near o w is =
     same-ascending near (neighbours_of book s) is.ascends (neighbours-ascend book s o)
     (λ t h. neighbour-from book s t w (sym (is.same t) ∙ h)) (λ t h. is.same t ∙ neighbour-gives book s t h)
 
--- a station that the book hasn't has none
+-- A station outside the book has no neighbours.
 pub neighbours-none : (book : BookView) (s : ℕ) → IsInOrder book → is_in (stations_of book) s ≡ false → neighbours_of book s ≡ []
 neighbours-none book s o out =
     same-ascending (neighbours_of book s) [] (neighbours-ascend book s o.domains) refl
@@ -171,7 +171,7 @@ neighbours-none book s o out =
 
 -- ---- the lists in the domains' order
 
--- one domain more
+-- One more domain.
 pub lists-next : (book : BookView) (i : ℕ) (d : Domain) (done : List (List ℕ)) (near : List ℕ) → i < length book.domains → AreInOrder book.domains → list_all (is_within book.domains) book.pairs ≡ true → done ≡ map (λ x. neighbours_of book x.station) (take i book.domains) → IsListFor book.pairs (get_or book.domains i d).station near → done ++ near ∷ [] ≡ map (λ x. neighbours_of book x.station) (take (i + 1) book.domains)
 lists-next book i d done near l o w so_far is =
     let one : near ≡ neighbours_of book (get_or book.domains i d).station = list-is book (get_or book.domains i d).station near o w is in
@@ -184,7 +184,7 @@ pub lists-all : (book : BookView) (i : ℕ) (done : List (List ℕ)) → length 
 lists-all book i done l h =
     h ∙ ap (map (λ x. neighbours_of book x.station)) (take_all i book.domains l) ∙ sym (map-map (neighbours_of book) (λ (x : Domain). x.station) book.domains)
 
--- the list at a station's place
+-- The list at a station's place.
 pub list-at : (book : BookView) (lists : List (List ℕ)) (i s : ℕ) (near : List ℕ) → lists ≡ lists_for book → i < length book.domains → get_or (stations_of book) i 0 ≡ s → near ≡ get_or lists i near → near ≡ neighbours_of book s
 list-at book lists i s near all l own here =
     let few : length (stations_of book) ≡ length book.domains = length-map book.domains (λ d. d.station) in

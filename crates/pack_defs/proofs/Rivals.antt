@@ -1,4 +1,4 @@
--- Two scenarios that differ in one station's value: their runs are one until that station leaves.
+-- Two scenarios that differ in one station's value: their runs agree until that station leaves.
 use Rattle.std.proofs.Common.{◌≡◌, ℕ, ◌+◌, ◌-◌, ◌≤◌, true, false, not, ◌&&◌, ◌||◌, eqb, ltb, ◌⊎◌, inl, inr, List, [], ◌∷◌, ◌++◌, refl, sym, ap, ◌∙◌, subst, arith, Contains, filter}
 use Rattle.std.proofs.Math.Nat.{le_refl, le_trans}
 use Rattle.std.specs.Bool.{MatchBool}
@@ -13,27 +13,27 @@ use Rattle.pack_defs.specs.Prices.{offer, declines, last_round}
 use Rattle.pack_defs.specs.ClockRule.{ClockTest, FrozenAt, ClockState, is_active, is_on_air, is_listed, freezes, goes_on_air, exits, has_room, after_test, after_tests}
 use Rattle.pack_defs.proofs.ClockSteps.{is_in-without, test_cases, test_idle, test_freezes, test_exits, test_stays, stays_active, was_frozen, run_frozen, run_was_frozen}
 
--- the scenarios are alike but for what this station declines
+-- The scenarios agree except in what this station declines.
 pub record AgreeBut (s : ℕ) (A B : Scenario) : Type 0 where
   pub same_facilities : facilities A ≡ facilities B
   pub same_offers : (t r : ℕ) → offer A t r ≡ offer B t r
   pub same_last : last_round A ≡ last_round B
   pub same_others : (t r : ℕ) → (t ≡ s → ⊥) → declines A t r ≡ declines B t r
 
--- the station declines just the offers below this value
+-- The station declines exactly the offers below this value.
 pub record Bids (sc : Scenario) (s v : ℕ) : Type 0 where
   pub below : (r : ℕ) → declines sc s r ≡ ltb (offer sc s r) v
 
--- the tests of the station among these are one a round, from the round after k on
+-- The station has one test a round among these, from the round after k on.
 abbrev pub OneEachRound : ℕ → ℕ → List ClockTest → Type 0
 OneEachRound s k [] = Unit {0}
 OneEachRound s k (t ∷ ts) = MatchBool (eqb t.station s) ((t.round ≡ k + 1) × OneEachRound s (k + 1) ts) (OneEachRound s k ts)
 
--- the station has not been frozen so far
+-- The station has not been frozen so far.
 pub record Unfrozen (st : ClockState) (s : ℕ) : Type 0 where
   pub nowhere : (f : FrozenAt) → Contains st.frozen f → f.station ≡ s → ⊥
 
--- the state in which the test's station is frozen at this price
+-- The state in which the test's station is frozen at this price.
 abbrev frozen_at : ClockState → ClockTest → ℕ → ClockState
 frozen_at st t p = record {
   on_air = st.on_air;
@@ -42,32 +42,32 @@ frozen_at st t p = record {
 }
 
 module _ (book : BookView) (undecided : List ClockTest) where
-  -- the test freezes its station, with this entry
+  -- The test freezes its station with this entry.
   pub record Freezes (sc : Scenario) (s : ℕ) (st : ClockState) (t : ClockTest) (f : FrozenAt) : Type 0 where
     pub no_room : has_room sc book undecided st t ≡ false
     pub price : f.price ≡ offer sc s (t.round - 1)
     pub now : Contains (freezes sc st t).frozen f
 
-  -- the test leaves its station active
+  -- The test leaves its station active.
   pub record Stays (sc : Scenario) (st : ClockState) (t : ClockTest) : Type 0 where
     pub room : has_room sc book undecided st t ≡ true
     pub bids_on : exits sc t ≡ false
     pub same : after_test sc book undecided st t ≡ st
 
-  -- whether a test finds room doesn't hang on values
+  -- Whether a test finds room doesn't depend on values.
   pub same_room : (s : ℕ) (A B : Scenario) (st : ClockState) (t : ClockTest) → AgreeBut s A B → has_room A book undecided st t ≡ has_room B book undecided st t
   same_room s A B st t agree = ap (λ fs. fits book (filter (λ f. is_on_air st f || (eqb f t.station)) fs) && not (is_listed undecided t)) agree.same_facilities
 
-  -- nor does what a test pays
+  -- What a test pays doesn't depend on values.
   pub same_freeze : (s : ℕ) (A B : Scenario) (st : ClockState) (t : ClockTest) → AgreeBut s A B → freezes A st t ≡ freezes B st t
   same_freeze s A B st t agree = ap (λ p. frozen_at st t p) (agree.same_offers t.station (t.round - 1))
 
-  -- nor does when the other stations go on air
+  -- When the other stations go on air doesn't depend on values.
   pub same_exits : (s : ℕ) (A B : Scenario) (t : ClockTest) → AgreeBut s A B → (t.station ≡ s → ⊥) → exits A t ≡ exits B t
   same_exits s A B t agree other =
       ap (λ n. (eqb t.round n) || declines A t.station t.round) agree.same_last ∙ ap (λ b. (eqb t.round (last_round B)) || b) (agree.same_others t.station t.round other)
 
-  -- a test of another station leaves one state in both scenarios
+  -- A test of another station leads to the same state in both scenarios.
   pub same_others_test : (s : ℕ) (A B : Scenario) (st : ClockState) (t : ClockTest) → AgreeBut s A B → (t.station ≡ s → ⊥) → after_test A book undecided st t ≡ after_test B book undecided st t
   same_others_test s A B st t agree other =
       let room = same_room s A B st t agree in
@@ -78,7 +78,7 @@ module _ (book : BookView) (undecided : List ClockTest) where
       (λ active has out_a. sym (test_exits book undecided B st t active (sym room ∙ has) (sym out ∙ out_a)))
       (λ active has out_a. sym (test_stays book undecided B st t active (sym room ∙ has) (sym out ∙ out_a)))
 
-  -- of a station that ends frozen, a test while it is active freezes it as it ends, or leaves it
+  -- A test of a station that ends frozen, while the station is active, freezes it with its final entry or leaves it active.
   pub test_of_frozen : (sc : Scenario) (s : ℕ) (t : ClockTest) (ts : List ClockTest) (st : ClockState) (f : FrozenAt) →
       t.station ≡ s → f.station ≡ s → is_active st s ≡ true → Unfrozen st s →
       Contains (after_tests sc book undecided (t ∷ ts) st).frozen f →
@@ -101,18 +101,18 @@ module _ (book : BookView) (undecided : List ClockTest) where
       (λ _ has out e. inr (record { room = has; bids_on = out; same = e }))
       refl
 
-  -- a test of another station doesn't freeze this one
+  -- A test of another station doesn't freeze this one.
   pub unfrozen_other : (sc : Scenario) (s : ℕ) (st : ClockState) (t : ClockTest) → (t.station ≡ s → ⊥) → Unfrozen st s → Unfrozen (after_test sc book undecided st t) s
   unfrozen_other sc s st t other unfrozen = record {
     nowhere = λ f h of_s.
         unfrozen.nowhere f (was_frozen book undecided sc st t f (λ same. absurd (other (same ∙ of_s))) h) of_s;
   }
 
-  -- the run of the rest, where a test leaves the state
+  -- The run of the remaining tests, if a test leaves the state.
   rest_of : (sc : Scenario) (t : ClockTest) (ts : List ClockTest) (st : ClockState) (f : FrozenAt) → after_test sc book undecided st t ≡ st → Contains (after_tests sc book undecided (t ∷ ts) st).frozen f → Contains (after_tests sc book undecided ts st).frozen f
   rest_of sc t ts st f same h = subst (λ z. Contains (after_tests sc book undecided ts z).frozen f) same h
 
-  -- What a station is paid doesn't hang on its value: where it is frozen in both, it is at one price.
+  -- What a station is paid doesn't depend on its value: if it is frozen in both, it has one price.
   pub one_price : (s : ℕ) (A B : Scenario) (ts : List ClockTest) (st : ClockState) (f g : FrozenAt) →
       AgreeBut s A B → is_active st s ≡ true → Unfrozen st s → f.station ≡ s → g.station ≡ s →
       Contains (after_tests A book undecided ts st).frozen f → Contains (after_tests B book undecided ts st).frozen g → f.price ≡ g.price
@@ -161,7 +161,7 @@ module _ (book : BookView) (undecided : List ClockTest) where
             paid_at_least s v k sc ts (after_test sc book undecided st t) f bids rounds accepts (stays_active book undecided sc st t s other active) (unfrozen_other sc s st t other unfrozen) of_s h
       ]) refl each
 
-  -- Nor more than it was offered in the last round that it got through.
+  -- No station is paid more than it was offered in the last round that it got through.
   pub paid_at_most : (s k : ℕ) (sc : Scenario) (ts : List ClockTest) (st : ClockState) (f : FrozenAt) →
       OneEachRound s k ts → ((r : ℕ) → offer sc s (r + 1) ≤ offer sc s r) → is_active st s ≡ true → Unfrozen st s → f.station ≡ s →
       Contains (after_tests sc book undecided ts st).frozen f → f.price ≤ offer sc s k
@@ -181,7 +181,7 @@ module _ (book : BookView) (undecided : List ClockTest) where
             paid_at_most s k sc ts (after_test sc book undecided st t) f rounds falls (stays_active book undecided sc st t s other active) (unfrozen_other sc s st t other unfrozen) of_s h
       ]) refl each
 
-  -- With a value that isn't above what it is paid in the one, the station is frozen in the other too, by the same entry.
+  -- With a value that isn't above its payment in the first scenario, the station is frozen in the second too, by the same entry.
   pub frozen_too : (s v k : ℕ) (A B : Scenario) (ts : List ClockTest) (st : ClockState) (f : FrozenAt) →
       AgreeBut s A B → Bids B s v → v ≤ f.price → OneEachRound s k ts → ((r : ℕ) → offer A s (r + 1) ≤ offer A s r) →
       is_active st s ≡ true → Unfrozen st s → f.station ≡ s →

@@ -1,10 +1,10 @@
--- Whether a line speaks of a station in a round: one that says stay, or one that says leave.
+-- Whether a line speaks of a station in a round: a line that says stay, or one that says leave.
 use Rattle.std.proofs.Common.{◌≡◌, ◌&&◌, ◌||◌, ◌==◌, ◌∷◌, ◌∙◌, [], ℕ, List, Bool, true, false, not, refl, sym, ap}
 use Rattle.std.specs.List.{list_any}
 use Rattle.pack_defs.specs.declared.owners.OwnerLine.{OwnerLine}
 use Rattle.pack_defs.specs.Prices.{is_said, stays}
 
--- a line of the station and the round says leave
+-- Whether a line of the station in the round says leave.
 abbrev pub leaves : List OwnerLine → ℕ → ℕ → Bool
 leaves lines r s = list_any (λ x. ((x.round == r) && (x.station == s)) && not x.stays) lines
 

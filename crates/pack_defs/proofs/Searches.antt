@@ -1,4 +1,4 @@
--- What a search by halves says of a list that ascends.
+-- What a binary search says about an ascending list.
 use Rattle.std.proofs.Common.{◌≡◌, ℕ, zero, suc, map-id, ◌+◌, ◌<◌, ◌≤◌, Bool, true, false, ◌==◌, ◌&&◌, nat_lt, List, [], ◌∷◌, map, length, get_or, Result, Ok, Err, refl, sym, subst, ap, ◌∙◌, arith, ⊎_elim}
 use Rattle.std.specs.List.{list_any}
 use Rattle.std.specs.List.Sorted.{IsBinarySearchResult, IsNonDecreasingBy, IsSortedBy, IsSearchInRange}
@@ -19,7 +19,7 @@ use Rattle.pack_defs.specs.Book.{comes_before, pairs_ascend}
 use Rattle.pack_defs.specs.Lists.{is_ascending, is_in}
 use Rattle.pack_defs.proofs.Words.{list_any-map}
 
--- one more element before the first, which is not less than it
+-- One more element before a first element that is not less.
 pub sorted-before : {X : Type 0} (lt : X → X → Bool) (x y : X) (ys : List X) → lt y x ≡ false → IsSortedBy lt (y ∷ ys) → IsSortedBy lt (x ∷ y ∷ ys)
 sorted-before lt x y ys h s zero d l u = h
 sorted-before lt x y ys h s (suc k) d l u =
@@ -34,11 +34,11 @@ sorted-keys key (x ∷ y ∷ ys) h =
     let less : key x < key y = ltb-true (key x) (key y) parts.0 in
     sorted-before (λ a b. is_lt (nat_cmp (key a) (key b))) x y ys (grind (arith, nat_tests)) (sorted-keys key (y ∷ ys) parts.1)
 
--- what isn't less than the one before it rises
+-- A number that isn't less than the one before it is at least that one.
 pub rises-step : (x y : ℕ) → is_lt (nat_cmp y x) ≡ false → x ≤ y
 rises-step x y h = grind (arith, nat_tests)
 
--- the order of pairs
+-- The order of pairs.
 abbrev pub pair_cmp : Pair → Pair → Ordering
 pair_cmp p q = ordering_then (nat_cmp p.f q.f) (ordering_then (nat_cmp p.a q.a) (ordering_then (nat_cmp p.g q.g) (nat_cmp p.b q.b)))
 
@@ -52,14 +52,14 @@ sorted-pairs (p ∷ q ∷ ps) h =
     let parts = and_parts (comes_before p q) (pairs_ascend (q ∷ ps)) h in
     sorted-before (λ a b. is_lt (pair_cmp a b)) p q ps (comes_before-not_less p q parts.0) (sorted-pairs (q ∷ ps) parts.1)
 
--- the keys rise towards the one that is looked for, and the pairs
+-- Ascending keys are sorted for the search for a key, and ascending pairs for the search for a pair.
 pub rising-keys : {X : Type 0} (key : X → ℕ) (xs : List X) (k : ℕ) → is_ascending (map key xs) ≡ true → IsNonDecreasingBy (λ y. ordering_index (nat_cmp (key y) k)) xs
 rising-keys key xs k h = searchable_from_sorted nat_cmp_total key xs k (sorted-keys key xs h)
 
 pub rising-pairs : (ps : List Pair) (x : Pair) → pairs_ascend ps ≡ true → IsNonDecreasingBy (λ y. ordering_index (pair_cmp y x)) ps
 rising-pairs ps x h = searchable_from_sorted total-law (λ p. p) ps x (sorted-pairs ps h)
 
--- the search finds an element exactly where one passes the test
+-- The search finds an element exactly if some element passes the test.
 pub found-any : {X : Type 0} (ord : X → Ordering) (test : X → Bool) (xs : List X) (r : Result ℕ ℕ) → ((y : X) → test y ≡ is_eq (ord y)) → IsSearchInRange r (length xs) → IsBinarySearchResult ord xs r → IsNonDecreasingBy (λ y. ordering_index (ord y)) xs → is_ok r ≡ list_any test xs
 found-any ord test [] (Ok i) same bound h up = absurd (omega arith)
 found-any ord test [] (Err i) same bound h up = refl
@@ -79,7 +79,7 @@ nat_cmp-same a b h = by_ranked (a < b) (a ≡ b) (b < a) (nat_cmp a b) (ranked a
 nat_cmp-eqb : (a b : ℕ) → (a == b) ≡ is_eq (nat_cmp a b)
 nat_cmp-eqb a b = grind (arith, nat_tests)
 
--- the key at the place that was found, and none where there is no place
+-- The key at the place that was found; without a place, no element has the key.
 pub found-key : {X : Type 0} (key : X → ℕ) (xs : List X) (k i : ℕ) (d : X) → IsBinarySearchResult (λ y. nat_cmp (key y) k) xs (Ok i) → key (get_or xs i d) ≡ k
 found-key key xs k i d h = nat_cmp-same (key (get_or xs i d)) k (h d)
 
@@ -91,7 +91,7 @@ pub found-no_key : {X : Type 0} (key : X → ℕ) (xs : List X) (k i : ℕ) → 
 found-no_key key xs k i bound h a =
     list_any-map (λ y. y == k) key xs ∙ sym (found-any (λ y. nat_cmp (key y) k) (λ y. key y == k) xs (Err i) (λ y. nat_cmp-eqb (key y) k) bound h (rising-keys key xs k a))
 
--- whether the number is found is whether the list has it
+-- The search finds the number exactly if the list has it.
 pub found-number : (xs : List ℕ) (k : ℕ) (r : Result ℕ ℕ) → IsSearchInRange r (length xs) → IsBinarySearchResult (λ y. nat_cmp y k) xs r → is_ascending xs ≡ true → is_ok r ≡ is_in xs k
 found-number xs k r bound h a =
     found-any (λ y. nat_cmp y k) (λ y. y == k) xs r (λ y. nat_cmp-eqb y k) bound h (rising-keys (λ y. y) xs k (rw map-id a))
@@ -102,7 +102,7 @@ is_pair x p = (p.f == x.f) && ((p.a == x.a) && ((p.g == x.g) && (p.b == x.b)))
 pair_cmp-is_pair : (x p : Pair) → is_pair x p ≡ is_eq (pair_cmp p x)
 pair_cmp-is_pair x p = grind (arith, nat_tests)
 
--- whether the pair is found is whether the list has it
+-- The search finds the pair exactly if the list has it.
 pub found-pair : (ps : List Pair) (x : Pair) (r : Result ℕ ℕ) → IsSearchInRange r (length ps) → IsBinarySearchResult (λ y. pair_cmp y x) ps r → pairs_ascend ps ≡ true → is_ok r ≡ list_any (is_pair x) ps
 found-pair ps x r bound h a =
     found-any (λ y. pair_cmp y x) (is_pair x) ps r (pair_cmp-is_pair x) bound h (rising-pairs ps x a)

@@ -1,10 +1,10 @@
--- A law of packing, a statement about every book and every set of stations. It is proved in `src/packing_laws`.
+-- A law of packing, a statement about every book and every set of stations. `src/packing_laws` proves it.
 use Rattle.std.specs.Prelude.{◌≡◌, ◌⊎◌, ℕ, List, Contains, IsTrue}
 use Rattle.pack_defs.specs.Book.{BookView}
 use Rattle.pack_defs.specs.Components.{component}
 use Rattle.pack_defs.specs.Packing.{fits}
 
--- where some stations fit, they and one more fit exactly where that one's component among them does
+-- If some stations fit, they and one more station fit exactly if the component of that station among them fits.
 abbrev pub ComponentDecidesFit : Type 0
 ComponentDecidesFit =
     (book : BookView) (on set : List ℕ) (s : ℕ) →

@@ -1,4 +1,4 @@
-//! The pairs of one station: by halves, in a list of pairs whose first station doesn't fall, or whose second doesn't.
+//! The pairs of one station, by binary search in a list of pairs whose first or second station never falls.
 
 ghost use Rattle.std.specs.Prelude.{◌≡◌, ◌==◌, IfOk, filter};
 ghost use Rattle.std.specs.List.Sorted.{IsNonDecreasingBy};
@@ -7,7 +7,7 @@ ghost use Rattle.pack_defs.specs.PairOrders.{IsBySecond};
 use crate::pair::Pair;
 use std::alloc::{AllocError as NoMemory, Global};
 
-/// The pairs by second station, those of each in the order that they have.
+/// Returns the pairs by second station; the pairs of one second station stay in their order.
 pub fn sorted_by_second(alloc: Global, pairs: &[Pair]) -> Result<Vec<Pair>, NoMemory>
     ensures { IfOk result (λ sorted. IsBySecond pairs.now sorted.items) }
 {
@@ -16,7 +16,7 @@ pub fn sorted_by_second(alloc: Global, pairs: &[Pair]) -> Result<Vec<Pair>, NoMe
     Ok(sorted)
 }
 
-/// Those whose first station is `f`, of pairs whose first station doesn't fall, by halves.
+/// Returns the pairs whose first station is `f`, by two binary searches. The first station of `pairs` never falls.
 pub fn first_is(pairs: &[Pair], f: u32) -> &[Pair]
     requires { IsNonDecreasingBy (λ p. p.f) pairs.now }
     ensures { result.now ≡ filter (λ p. p.f == f) pairs.now }
@@ -27,7 +27,7 @@ pub fn first_is(pairs: &[Pair], f: u32) -> &[Pair]
     &rest[..count]
 }
 
-/// Those whose second station is `g`, of pairs whose second station doesn't fall, by halves.
+/// Returns the pairs whose second station is `g`, by two binary searches. The second station of `pairs` never falls.
 pub fn second_is(pairs: &[Pair], g: u32) -> &[Pair]
     requires { IsNonDecreasingBy (λ p. p.g) pairs.now }
     ensures { result.now ≡ filter (λ p. p.g == g) pairs.now }

@@ -1,4 +1,4 @@
-//! A channel map: which stations are on air, and where.
+//! A channel map: which stations are on air, and on which channels.
 
 ghost use Rattle.std.specs.Prelude.{◌≡◌, ◌<◌, ◌^◌, IfOk, length};
 ghost use Rattle.pack_defs.specs.ChannelMap.{IsAscending, channel_of, overlaid};
@@ -25,8 +25,10 @@ impl Model for ChannelMap {
 }
 
 impl ChannelMap {
-    /// The map of these entries, each a station and its channel. The only error is want of memory, of which 2^32
-    /// entries are one.
+    /// Returns the map of these entries, each a station and its channel.
+    ///
+    /// # Errors
+    /// Fails only if memory runs out; 2^32 entries count as out of memory.
     pub fn of(alloc: Global, entries: &[(u32, u8)]) -> Result<ChannelMap, NoMemory>
         requires { IsAscending entries.now }
         ensures { IfOk result (λ m. m ≡ entries.now) }
@@ -39,7 +41,7 @@ impl ChannelMap {
         })
     }
 
-    /// The channel of a station, if the map has one. It searches by halves.
+    /// Returns the channel of a station, if the map has one. Costs one binary search.
     pub fn get(&self, f: u32) -> Option<u8>
         ensures { result ≡ channel_of f self.now }
     {
@@ -49,7 +51,7 @@ impl ChannelMap {
         }
     }
 
-    /// Whether the map has this entry: the station, on this channel. It searches by halves.
+    /// Checks whether the map has this entry: the station, on this channel. Costs one binary search.
     pub fn has(&self, station: u32, channel: u8) -> bool
         ensures { result ≡ has_entry self.now (station, channel) }
     {
@@ -57,21 +59,21 @@ impl ChannelMap {
         self.get(station) == Some(channel)
     }
 
-    /// The number of stations.
+    /// Returns the number of stations.
     pub fn len(&self) -> u32
         ensures count { result ≡ length self.now }
     {
         self.entries.len() as u32
     }
 
-    /// Does nothing, and answers nothing: it says of each map that it ascends, which callers need for their proofs alone.
+    /// Proves that each map ascends; does nothing when run.
     pub fn keeps_order(&self)
         ensures { IsAscending self.now }
     {
         let _entries = &self.entries;
     }
 
-    /// The entries, each a station and its channel, ascending by facility.
+    /// Returns the entries, each a station and its channel, ascending by facility.
     pub fn entries(&self) -> &[(u32, u8)]
         ensures entries { result.now ≡ self.now }
         ensures ascending { IsAscending self.now }
@@ -79,8 +81,11 @@ impl ChannelMap {
         &self.entries
     }
 
-    /// This map overwritten by another's entries: each station of `delta` has its channel there, and every other one keeps
-    /// its own. One pass over both maps. The only error is want of memory, of which 2^32 entries are one.
+    /// Returns this map overwritten by the entries of `delta`: each station of `delta` has its channel there, every other station its
+    /// own. Makes one pass over both maps.
+    ///
+    /// # Errors
+    /// Fails only if memory runs out; 2^32 entries count as out of memory.
     pub fn overlay(&self, alloc: Global, delta: &ChannelMap) -> Result<ChannelMap, NoMemory>
         ensures { IfOk result (λ m. m ≡ overlaid self.now delta.now) }
     {
@@ -92,7 +97,7 @@ impl ChannelMap {
     }
 }
 
-// Two ascending lists in one, where of two entries of one station the second list's stays.
+// Merges two ascending lists. If both have an entry of a station, the entry of `over` stays.
 fn merged(
     alloc: Global,
     under: &[(u32, u8)],

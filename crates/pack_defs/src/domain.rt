@@ -13,7 +13,10 @@ pub struct Domain {
 }
 
 impl Domain {
-    /// The same station with the same channels. The only error is want of memory.
+    /// Returns a copy of the domain.
+    ///
+    /// # Errors
+    /// Fails only if memory runs out.
     pub fn copy(&self, alloc: Global) -> Result<Domain, NoMemory>
         ensures { IfOk result (λ domain. domain ≡ self.now) }
     {

@@ -4,7 +4,7 @@ ghost use Rattle.std.specs.Prelude.{◌≡◌};
 
 use std::marker::Model;
 
-/// A list that contracts see as the plain list of its items. It is made from a `Vec` and gives it back, without memory.
+/// A list that contracts see as the plain list of its items. Conversions from and to `Vec` allocate nothing.
 #[derive(Debug, Drop)]
 pub struct Items<T> {
     list: Vec<T>,
@@ -19,21 +19,21 @@ impl<T> Model for Items<T> {
 }
 
 impl<T> Items<T> {
-    /// The list of the vector's items.
+    /// Returns the list of the vector's items.
     pub fn from_vec(list: Vec<T>) -> Items<T>
         ensures { result ≡ list.items }
     {
         Items { list }
     }
 
-    /// The vector of the items.
+    /// Returns the vector of the items.
     pub fn into_vec(self) -> Vec<T>
         ensures { result.items ≡ self }
     {
         self.list
     }
 
-    /// The items.
+    /// Returns the items.
     pub fn as_slice(&self) -> &[T]
         ensures { result.now ≡ self.now }
     {

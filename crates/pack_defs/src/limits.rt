@@ -1,45 +1,44 @@
-//! The limits of an auction's files. Definitions cite these constants, and so do the readers that refuse what is above them.
+//! The limits of an auction's files. Definitions cite these constants, and readers reject what exceeds them.
 
-/// The most stations of a scenario, and so of a book. A scenario with more is refused.
+/// The most stations of a scenario, and therefore of a book. A scenario with more is rejected.
 pub const MOST_STATIONS: u64 = 8_192;
 
-/// The most rounds in which the price falls. A list of more decrements is refused; a fall by rate ends with this round.
+/// The most rounds in which the price falls. A list of more decrements is rejected; a fall by rate ends with this round.
 pub const MOST_ROUNDS: u64 = 1_000;
 
-/// The greatest decrement, in cents per unit of volume. A scenario with a greater one is refused.
+/// The greatest decrement, in cents per unit of volume. A scenario with a greater one is rejected.
 pub const MOST_DECREMENT: u64 = 1_000_000;
 
-/// The greatest rate and the greatest floor of a fall by rate, in thousandths. A scenario with a greater one is refused.
+/// The greatest rate and the greatest floor of a fall by rate, in thousandths. A scenario with a greater one is rejected.
 pub const MOST_THOUSANDTHS: u64 = 1_000;
 
-/// The greatest opening price, in cents per unit of volume. A scenario with a greater one is refused.
+/// The greatest opening price, in cents per unit of volume. A scenario with a greater one is rejected.
 pub const MOST_OPENING: u64 = 1_000_000;
 
-/// The greatest volume of a station, in units. A scenario with a greater one is refused.
+/// The greatest volume of a station, in units. A scenario with a greater one is rejected.
 pub const MOST_VOLUME: u64 = 1_000_000;
 
-/// The greatest value of a station, in cents. A scenario with a greater one is refused.
+/// The greatest value of a station, in cents. A scenario with a greater one is rejected.
 pub const MOST_VALUE: u64 = 1_000_000_000_000_000;
 
-/// The most workers of a scenario. A scenario with more is refused.
+/// The most workers of a scenario. A scenario with more is rejected.
 pub const MOST_WORKERS: u64 = 16;
 
-/// The greatest budget of a worker of kind "cdcl", in proof lines for a query. A scenario with a greater one is refused.
+/// The greatest budget of a worker of kind "cdcl", in proof lines for a query. A scenario with a greater one is rejected.
 pub const MOST_PROOF_LINES: u64 = 100_000;
 
-/// The greatest budget of a worker of kind "walk", in moves for a query. A scenario with a greater one is refused.
+/// The greatest budget of a worker of kind "walk", in moves for a query. A scenario with a greater one is rejected.
 pub const MOST_MOVES: u64 = 1_000_000;
 
-/// The most pairs that interfere, of one file. A file that tells of more is refused.
+/// The most interfering pairs of one file. A file with more is rejected.
 pub const MOST_PAIRS: usize = 4_000_000;
 
-/// The most rows of a file of domains. A file with more is refused.
+/// The most rows of a file of domains. A file with more is rejected.
 pub const MOST_DOMAIN_ROWS: usize = 65_536;
 
-/// The least channel that a station may have, and the least top channel of a scenario. A lesser one of a station is dropped, and
-/// a scenario with a lesser top channel is refused.
+/// The least channel that a station may have, and the least top channel of a scenario. A lesser channel of a station is dropped; a
+/// scenario with a lesser top channel is rejected.
 pub const LEAST_CHANNEL: u8 = 14;
 
-/// The greatest channel that a station may have, and the greatest top channel of a scenario. A file that names a greater one is
-/// refused.
+/// The greatest channel that a station may have, and the greatest top channel of a scenario. A file that names a greater one is rejected.
 pub const GREATEST_CHANNEL: u8 = 51;

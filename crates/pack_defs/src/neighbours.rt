@@ -1,6 +1,8 @@
-//! The neighbours of each station of a book, that is, the stations that interfere with it. The lists are made once, with
-//! the book, and each from the pairs of its own station alone. A pair's other station is put into the ascending list; most
-//! often it stands there already, since two stations are in as many pairs as there are channels that they can't share.
+//! The neighbours of each station of a book, that is, the stations that interfere with it.
+//!
+//! The lists are built once, with the book, each from the pairs of its own station alone. The other station of each pair is inserted into
+//! the ascending list. Most often the list has that station already, since two stations share a pair for each conflicting pair of
+//! channels.
 
 ghost use Rattle.std.specs.Prelude.{◌≡◌, ℕ, [], ◌∷◌, IfOk, IsTrue, OnOk, map};
 ghost use Rattle.std.specs.List.{list_all};
@@ -16,8 +18,11 @@ use crate::items::Items;
 use crate::pair::Pair;
 use std::alloc::{AllocError as NoMemory, Global};
 
-/// The neighbours of each station of these domains, by the pairs, which are given in two orders. For each pair it searches
-/// twice by halves among the neighbours of a station. The only error is want of memory.
+/// Returns the neighbours of each station of these domains, from the pairs in two orders. Each pair costs two binary searches among the
+/// neighbours of a station.
+///
+/// # Errors
+/// Fails only if memory runs out.
 pub fn lists_of(
     alloc: Global,
     domains: &[Domain],
@@ -37,7 +42,10 @@ pub fn lists_of(
     Ok(lists)
 }
 
-/// A copy of each list. The only error is want of memory.
+/// Copies each list.
+///
+/// # Errors
+/// Fails only if memory runs out.
 pub fn copied_lists(alloc: Global, lists: &[Items<u32>]) -> Result<Vec<Items<u32>>, NoMemory>
     ensures { IfOk result (λ copy. copy.items ≡ lists.now) }
 {
@@ -48,8 +56,7 @@ pub fn copied_lists(alloc: Global, lists: &[Items<u32>]) -> Result<Vec<Items<u32
     Ok(copy)
 }
 
-// The neighbours of one station: the first stations of the pairs that it is second in, and the second ones of those that
-// it is first in.
+// Returns the neighbours of one station: the first stations of the pairs to it, and the second stations of the pairs from it.
 fn list_of(
     alloc: Global,
     station: u32,
@@ -66,7 +73,7 @@ fn list_of(
     Ok(Items::from_vec(near))
 }
 
-// Puts the first station of each of these pairs into an ascending list.
+// Inserts the first station of each of these pairs into an ascending list.
 fn put_firsts(near: &mut Vec<u32>, pairs: &[Pair]) -> Result<(), NoMemory>
     requires { IsTrue (is_ascending near.old.items) }
     ensures { OnOk result (HasAlso near.old.items (map (λ p. p.f) pairs.now) near.new.items) }
@@ -77,7 +84,7 @@ fn put_firsts(near: &mut Vec<u32>, pairs: &[Pair]) -> Result<(), NoMemory>
     Ok(())
 }
 
-// Puts the second station of each of these pairs into an ascending list.
+// Inserts the second station of each of these pairs into an ascending list.
 fn put_seconds(near: &mut Vec<u32>, pairs: &[Pair]) -> Result<(), NoMemory>
     requires { IsTrue (is_ascending near.old.items) }
     ensures { OnOk result (HasAlso near.old.items (map (λ p. p.g) pairs.now) near.new.items) }
@@ -88,7 +95,7 @@ fn put_seconds(near: &mut Vec<u32>, pairs: &[Pair]) -> Result<(), NoMemory>
     Ok(())
 }
 
-// Puts a station into an ascending list, where that hasn't it yet.
+// Inserts a station into an ascending list, unless the list has it.
 fn put(near: &mut Vec<u32>, station: u32) -> Result<(), NoMemory>
     requires { IsTrue (is_ascending near.old.items) }
     ensures { OnOk result (HasAlso near.old.items (station ∷ []) near.new.items) }

@@ -1,4 +1,4 @@
--- What the walk keeps: what is reached is reached by pairs, and each station that is reached waits or is done with.
+-- The invariant of the search: what is reached is reached by pairs, and each reached station waits or has been visited.
 use Rattle.std.proofs.Common.{◌≡◌, ℕ, Bool, true, false, ◌==◌, List, [], ◌∷◌, ◌++◌, ◌⊎◌, inl, inr, length, refl, sym, subst, arith, ◌∙◌, eq-eqb, eqb-true}
 use Rattle.std.proofs.lemmas.Bool.{both_ways, cases_Bool, false≢true, false_from_ne_true, or_cases, or_left}
 use Rattle.pack_defs.specs.Book.{BookView}
@@ -35,7 +35,7 @@ walk-start book on s none seen empty m =
       least = λ t h. subst (λ z. Reaches book (with_station on s) s z) (only t h) here;
     }
 
--- the last of those that wait is visited
+-- The last of the waiting stations is visited.
 pub walk-step : (book : BookView) (on near : List ℕ) (s x : ℕ) (seen after : ℕ → Bool) (rest longer : List ℕ) → IsWalk book on s seen (rest ++ x ∷ []) → ((t : ℕ) → is_in near t ≡ interferes book x t) → IsVisited on near seen rest after longer → IsWalk book on s after longer
 walk-step book on near s x seen after rest longer w same v =
     let reached_x : Reaches book (with_station on s) s x = w.least x (w.known x (last-in rest x)) in
@@ -72,7 +72,7 @@ reaches-seen book on s seen w t (next {t = u} before there joined) =
       ]
     ]
 
--- where none waits, the component is reached
+-- If no station waits, the component is reached.
 walk-end : (book : BookView) (on : List ℕ) (s : ℕ) (seen : ℕ → Bool) → IsWalk book on s seen [] → (t : ℕ) → seen t ≡ is_in (component book (with_station on s) s) t
 walk-end book on s seen w t =
     let set : List ℕ = with_station on s in

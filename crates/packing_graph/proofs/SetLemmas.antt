@@ -1,4 +1,4 @@
--- What the list with one more station has.
+-- The members of a list with one more station.
 use Rattle.std.proofs.Common.{◌≡◌, ℕ, ◌<◌, true, false, cond, ◌==◌, nat_lt, List, [], ◌∷◌, ◌⊎◌, inl, inr, Contains, refl, sym, subst, ◌∙◌, arith, eqb-true, eq-eqb, ne_eqb}
 use Rattle.std.proofs.lemmas.Bool.{cases_order, and_parts, and_from, cond-true, cond-false, lt-ltb, le-ltb}
 use Rattle.pack_defs.specs.Lists.{is_ascending}
@@ -31,7 +31,7 @@ with_station-gives (x ∷ xs) s t h =
       ]
     ]) h
 
--- what it had it keeps
+-- The list keeps its members.
 pub with_station-keeps : (on : List ℕ) (s t : ℕ) → Contains on t → Contains (with_station on s) t
 with_station-keeps [] s t h = absurd (Contains-nil t h)
 with_station-keeps (x ∷ xs) s t h =
@@ -46,7 +46,7 @@ with_station-keeps (x ∷ xs) s t h =
       ]
     ]
 
--- ---- it ascends still
+-- ---- the list still ascends
 
 with_station-above : (b : ℕ) (xs : List ℕ) (s : ℕ) → is_ascending (b ∷ xs) ≡ true → b < s → is_ascending (b ∷ with_station xs s) ≡ true
 with_station-above b [] s a l = and_from (nat_lt b s) true (lt-ltb b s l) refl

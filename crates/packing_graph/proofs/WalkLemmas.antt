@@ -14,7 +14,7 @@ use Rattle.pack_defs.proofs.ComponentLaws.{filter_grows, filter_grows_by_one}
 use Rattle.pack_defs.proofs.Members.{is_in-gives}
 use Rattle.packing_graph.specs.Walks.{IsVisited, count_unseen}
 
--- one more is reached, or none
+-- One more station is reached, or none.
 pub record HasMore (x : ℕ) (seen more : ℕ → Bool) : Type 0 where
   pub same : (t : ℕ) → more t ≡ ((x == t) || seen t)
 
@@ -28,21 +28,21 @@ or_cond : (a b : Bool) → cond a true b ≡ (a || b)
 or_cond true b = refl
 or_cond false b = refl
 
--- what an insertion does to a set
+-- How an insertion changes a set.
 pub has_more : (old new : BTreeSet ℕ) (x : ℕ) → Updates nat_cmp old new x true → HasMore x (contains nat_cmp old) (contains nat_cmp new)
 has_more old new x u = record {
   same = λ t. u.0 t ∙ or_cond (is_eq (nat_cmp x t)) (contains nat_cmp old t) ∙ ap (λ b. b || contains nat_cmp old t) (eq_by_cmp x t);
 }
 
--- an empty set has none
+-- An empty set has no member.
 pub none-in : (s : BTreeSet ℕ) → s.keys ≡ [] → (t : ℕ) → contains nat_cmp s t ≡ false
 none-in s e t = ap (list_any (λ k. is_eq (nat_cmp t k))) e
 
--- a set has its keys
+-- The members of a set are its keys.
 pub key-in : (s : BTreeSet ℕ) (t : ℕ) → is_in s.keys t ≡ contains nat_cmp s t
 key-in s t = list_any-same (λ k. k == t) (λ k. is_eq (nat_cmp t k)) (λ k. swapped k t) s.keys
 
--- what an insertion says of the set before it
+-- What an insertion says about the set before it.
 pub was_out : (b added : Bool) → added ≡ not b → added ≡ true → b ≡ false
 was_out true added e h = absurd (false≢true (sym e ∙ h))
 was_out false added e h = refl
@@ -74,7 +74,7 @@ pub in-gives : (xs : List ℕ) (x t : ℕ) → is_in (xs ++ x ∷ []) t ≡ true
 in-gives xs x t h =
     elim (or_cases (is_in xs t) (x == t) (sym (is_in-more xs x t) ∙ h)) [ inl old ↦ inl old | inr e ↦ inr (eqb-true x t e) ]
 
--- how many are not reached falls
+-- The number of unreached stations falls.
 unseen-falls : (on : List ℕ) (x : ℕ) (seen more : ℕ → Bool) → HasMore x seen more → count_unseen on more ≤ count_unseen on seen
 unseen-falls on x seen more m =
     filter_grows (λ t. not (more t)) (λ t. not (seen t)) on (λ t out. elim (cases_Bool (seen t)) [
@@ -101,7 +101,7 @@ visit-start on seen waiting = record {
   counted = omega arith;
 }
 
--- a neighbour that is off air
+-- A neighbour that is off air.
 visit-off : (on near : List ℕ) (x : ℕ) (seen after : ℕ → Bool) (waiting longer : List ℕ) → IsVisited on near seen waiting after longer → is_in on x ≡ false → IsVisited on (near ++ x ∷ []) seen waiting after longer
 visit-off on near x seen after waiting longer v off = record {
   kept = v.kept;
@@ -115,7 +115,7 @@ visit-off on near x seen after waiting longer v off = record {
   counted = v.counted;
 }
 
--- one that was reached before
+-- A neighbour that was reached before.
 visit-known : (on near : List ℕ) (x : ℕ) (seen after more : ℕ → Bool) (waiting longer : List ℕ) → IsVisited on near seen waiting after longer → HasMore x after more → after x ≡ true → IsVisited on (near ++ x ∷ []) seen waiting more longer
 visit-known on near x seen after more waiting longer v m known =
     let counted : length longer + count_unseen on after ≤ length waiting + count_unseen on seen = v.counted in
@@ -136,7 +136,7 @@ visit-known on near x seen after more waiting longer v m known =
       counted = omega (arith, counted, fewer);
     }
 
--- and a new one
+-- A new neighbour.
 visit-new : (on near : List ℕ) (x : ℕ) (seen after more : ℕ → Bool) (waiting longer : List ℕ) → IsVisited on near seen waiting after longer → HasMore x after more → is_in on x ≡ true → after x ≡ false → IsVisited on (near ++ x ∷ []) seen waiting more (longer ++ x ∷ [])
 visit-new on near x seen after more waiting longer v m there new =
     let counted : length longer + count_unseen on after ≤ length waiting + count_unseen on seen = v.counted in
@@ -160,7 +160,7 @@ visit-new on near x seen after more waiting longer v m there new =
       counted = omega (arith, counted, fewer, size);
     }
 
--- ---- the same, at the place of the loop
+-- ---- the same, at the current place of the loop
 
 pub step-off : (on near : List ℕ) (i : ℕ) (seen after : ℕ → Bool) (waiting longer : List ℕ) → i < length near → IsVisited on (take i near) seen waiting after longer → is_in on (get_or near i 0) ≡ false → IsVisited on (take (i + 1) near) seen waiting after longer
 step-off on near i seen after waiting longer l v off =

@@ -1,11 +1,11 @@
--- A law of components. It is proved in `src/laws`, beside one that is short enough to stand there.
+-- A law of components. `src/laws` proves it, together with one that is short enough to be written out there.
 use Rattle.std.specs.Prelude.{◌≡◌, ◌↔◌, ℕ, List, map}
 use Rattle.pack_defs.specs.Book.{BookView}
 use Rattle.pack_defs.specs.Components.{component}
 use Rattle.pack_defs.specs.Packing.{Fits, IsClean}
 use Rattle.packing_graph.specs.Sets.{with_station}
 
--- given a clean map of the stations on air, these and one more fit exactly where that one's component among them does
+-- Given a clean map of the stations on air, these and one more station fit exactly if the component of that station among them fits.
 abbrev pub ComponentIsEnough : Type 0
 ComponentIsEnough =
     (book : BookView) (on : List ℕ) (s : ℕ) (entries : List (ℕ × ℕ)) →

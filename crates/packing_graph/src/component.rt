@@ -1,4 +1,4 @@
-//! The component of a station: those on air that it reaches by pairs.
+//! The component of a station: the stations on air that it reaches by pairs.
 
 ghost use Rattle.std.specs.Prelude.{◌≡◌, IfOk, IsTrue};
 ghost use Rattle.pack_defs.specs.Components.{component};
@@ -11,8 +11,11 @@ use pack_defs::book::Book;
 use std::alloc::{AllocError as NoMemory, Global};
 use std::collections::BTreeSet;
 
-/// The stations that `s` reaches by pairs of the book among the stations on air, ascending, with `s`. It costs what
-/// `component_among` does, with a search by halves in `on` for each question. The only error is want of memory.
+/// Returns `station` and the stations that it reaches by pairs of the book among the stations on air, ascending. Costs what
+/// `component_among` costs, with a binary search in `on` for each membership question.
+///
+/// # Errors
+/// Fails only if memory runs out.
 pub fn component(alloc: Global, book: &Book, on: &[u32], station: u32) -> Result<Vec<u32>, NoMemory>
     requires { IsTrue (is_ascending on.now) }
     ensures { IfOk result (λ stations. stations.items ≡ component book.now (with_station on.now station) station) }
@@ -20,10 +23,13 @@ pub fn component(alloc: Global, book: &Book, on: &[u32], station: u32) -> Result
     component_among(alloc, book, &ListedStations { list: on }, station)
 }
 
-/// The stations that `s` reaches by pairs of the book among the stations of a set, ascending, with `s`. It costs what these
-/// stations and their neighbours cost, whatever the size of the set and the number of their pairs: for each of them a look-up
-/// of its `neighbours` in the book, and for each neighbour one question to `on` and a search by halves in the ordered set of
-/// those reached. The only error is want of memory.
+/// Returns `station` and the stations that it reaches by pairs of the book among the stations of a set, ascending.
+///
+/// The cost depends only on these stations and their neighbours, not on the size of the set or the number of pairs. Each costs a lookup
+/// of its `neighbours` in the book. Each neighbour costs one question to `on` and a lookup in the ordered set of the reached stations.
+///
+/// # Errors
+/// Fails only if memory runs out.
 pub fn component_among<S: StationSet>(
     alloc: Global,
     book: &Book,
@@ -38,7 +44,7 @@ pub fn component_among<S: StationSet>(
     listed(alloc, seen)
 }
 
-// The numbers of a set, ascending.
+// Lists the numbers of a set, ascending.
 fn listed(alloc: Global, set: BTreeSet<u32>) -> Result<Vec<u32>, NoMemory>
     ensures { IfOk result (λ list. (list.items ≡ set.keys) × IsTrue (is_ascending list.items)) }
 {

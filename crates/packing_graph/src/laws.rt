@@ -1,11 +1,11 @@
-//! What a component and a part of a set say of what fits.
+//! Laws about what fits: for components, and for subsets. No code calls them.
 
 ghost use Rattle.std.specs.Prelude.{ℕ, List, Contains};
 ghost use Rattle.pack_defs.specs.Book.{BookView};
 ghost use Rattle.pack_defs.specs.Packing.{Fits};
 ghost use Rattle.packing_graph.specs.ComponentLaws.{ComponentIsEnough};
 
-/// Given a clean map of the stations on air, these and one more fit exactly where that one's component among them does.
+/// Given a clean map of the stations on air, these and one more station fit exactly if the component of that station among them fits.
 pub fn component_is_enough()
     ensures { ComponentIsEnough }
 {}

@@ -1,4 +1,4 @@
-//! A walk over the stations on air, from one to those that interfere with it, and on.
+//! A graph search over the stations on air, from one station to those that interfere with it, and on.
 
 ghost use Rattle.std.specs.Prelude.{◌≡◌, ℕ, IfOk, OnOk};
 ghost use Rattle.std.specs.BTreeSet.{contains};
@@ -13,7 +13,10 @@ use pack_defs::book::Book;
 use std::alloc::{AllocError as NoMemory, Global};
 use std::collections::BTreeSet;
 
-/// The stations that `s` reaches by pairs of the book among the stations on air, with `s`. The only error is want of memory.
+/// Returns `station` and the stations that it reaches by pairs of the book among the stations on air.
+///
+/// # Errors
+/// Fails only if memory runs out.
 pub fn reached<S: StationSet>(
     alloc: Global,
     book: &Book,
@@ -31,7 +34,7 @@ pub fn reached<S: StationSet>(
     Ok(seen)
 }
 
-// Adds those of these neighbours that are on air, and lets each one that is new wait for its own visit.
+// Adds the neighbours that are on air, and queues each new one for its own visit.
 fn visit<S: StationSet>(
     on: &S,
     near: &[u32],

@@ -1,4 +1,4 @@
-//! A set of stations, however it is kept.
+//! A set of stations, however it is stored.
 
 ghost use Rattle.std.specs.Prelude.{◌≡◌, ℕ, List, IsTrue};
 ghost use Rattle.pack_defs.specs.Lists.{is_ascending, is_in};
@@ -8,12 +8,12 @@ pub trait StationSet {
     /// The stations of the set.
     ghost stations: { Self → List ℕ };
 
-    /// Whether the station is one of the set. It takes no memory.
+    /// Checks whether the set has the station. Allocates nothing.
     fn has(&self, station: u32) -> bool
         ensures { result ≡ is_in (stations self.now) station };
 }
 
-/// The stations of a list that ascends, found by halves.
+/// The stations of an ascending list, found by binary search.
 #[derive(Clone, Copy, Drop)]
 pub(crate) struct ListedStations<'a> {
     pub(crate) list: &'a [u32],

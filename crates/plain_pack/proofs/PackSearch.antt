@@ -1,4 +1,4 @@
--- One step of the depth-first search: an entry more beside those chosen, and what it leaves.
+-- One step of the depth-first search: one more entry beside those chosen, and what remains.
 use Rattle.std.proofs.Common.{◌≡◌, ◌∙◌, ℕ, Bool, true, false, not, ◌&&◌, ◌||◌, ◌==◌, inl, inr, List, [], ◌∷◌, ◌++◌, map, refl, sym, ap, subst, append_assoc, Contains}
 use Rattle.std.specs.List.{list_any, list_all, flat_map}
 use Rattle.std.proofs.lemmas.Bool.{cases_Bool, both_ways, not-true, and_parts, and_from}
@@ -13,7 +13,7 @@ use Rattle.pack_defs.proofs.Members.{Contains-here, Contains-cons_cases, Contain
 use Rattle.pack_defs.proofs.Words.{list_any-from_each}
 use Rattle.plain_pack.specs.Search.{Extends, NoneExtends, NoneExtendsBy, stands_with}
 
--- a pair forbids its entries in either order
+-- A pair forbids its entries in either order.
 forbids-sym : (pairs : List Pair) (x y : ℕ × ℕ) → list_any (λ p. joins p x y) pairs ≡ list_any (λ p. joins p y x) pairs
 forbids-sym [] x y = refl
 forbids-sym (p ∷ ps) x y =
@@ -22,7 +22,7 @@ forbids-sym (p ∷ ps) x y =
     let here : (a || b) ≡ (b || a) = or_comm a b in
     rw (here, forbids-sym ps x y) refl
 
--- no element passes a test that the list doesn't
+-- If no element passes a test, a given element doesn't.
 none-of : {X : Type 0} (p : X → Bool) (xs : List X) (x : X) → list_any p xs ≡ false → Contains xs x → p x ≡ false
 none-of p xs x h l =
     elim (cases_Bool (p x)) [
@@ -30,7 +30,7 @@ none-of p xs x h l =
       | inr no_pass ↦ no_pass
     ]
 
--- an entry that may not stand beside the chosen ones is in no map that holds them
+-- An entry that is forbidden beside the chosen ones is in no clean map that has them.
 pub not-beside : (book : BookView) (chosen : List (ℕ × ℕ)) (x : ℕ × ℕ) (more : List (ℕ × ℕ)) → stands_with book chosen x ≡ false → is_apart book (chosen ++ x ∷ more) ≡ false
 not-beside book chosen x more h =
     elim (cases_Bool (is_apart book (chosen ++ x ∷ more))) [
@@ -43,7 +43,7 @@ not-beside book chosen x more h =
       | inr none ↦ none
     ]
 
--- an entry that may stand beside the chosen ones is apart from them
+-- An entry that is allowed beside the chosen ones is apart from them.
 pub beside : (book : BookView) (chosen : List (ℕ × ℕ)) (x : ℕ × ℕ) → is_apart book chosen ≡ true → stands_with book chosen x ≡ true → is_apart book (chosen ++ x ∷ []) ≡ true
 beside book chosen x a h =
     let parts = and_parts (list_all (λ y. not (is_forbidden book x y)) chosen) (not (is_forbidden book x x)) h in
@@ -70,12 +70,12 @@ beside book chosen x a h =
       ]
     ])
 
--- no station is left
+-- No station is left.
 pub extends-nil : (book : BookView) (chosen : List (ℕ × ℕ)) → is_apart book chosen ≡ true → Extends book chosen [] chosen
 unfolding assignments
 extends-nil book chosen a = record { more = []; listed = Contains-here [] []; whole = sym (append-nil chosen); apart = a }
 
--- a way to go on after one entry more is a way to go on
+-- An extension after one more entry is an extension.
 pub extends-by : (book : BookView) (chosen : List (ℕ × ℕ)) (s c : ℕ) (left : List ℕ) (all : List (ℕ × ℕ)) → Contains (domain_of book s) c → Extends book (chosen ++ (s, c) ∷ []) left all → Extends book chosen (s ∷ left) all
 unfolding assignments
 extends-by book chosen s c left all on h = record {
@@ -86,13 +86,13 @@ extends-by book chosen s c left all on h = record {
   apart = h.apart;
 }
 
--- no way after one entry more, said of the entries before it
+-- No extension after one more entry, stated for the entries before it.
 pub none-beyond : (book : BookView) (chosen : List (ℕ × ℕ)) (x : ℕ × ℕ) (left : List ℕ) → NoneExtends book (chosen ++ x ∷ []) left → (more : List (ℕ × ℕ)) → Contains (assignments book left) more → is_apart book (chosen ++ x ∷ more) ≡ false
 none-beyond book chosen x left h more l =
     subst (λ z. is_apart book z ≡ false) (append_assoc {A = ℕ × ℕ} chosen (x ∷ []) more)
     (none-of (λ more. is_apart book ((chosen ++ x ∷ []) ++ more)) (assignments book left) more h l)
 
--- one channel more that leads nowhere
+-- One more channel without an extension.
 pub none-by : (book : BookView) (chosen : List (ℕ × ℕ)) (s : ℕ) (channels : List ℕ) (c : ℕ) (left : List ℕ) → NoneExtendsBy book chosen s channels left → ((more : List (ℕ × ℕ)) → Contains (assignments book left) more → is_apart book (chosen ++ (s, c) ∷ more) ≡ false) → NoneExtendsBy book chosen s (channels ++ c ∷ []) left
 none-by book chosen s channels c left before here =
     let ways = λ (d : ℕ). map (λ rest. (s, d) ∷ rest) (assignments book left) in
@@ -109,17 +109,17 @@ none-by book chosen s channels c left before here =
       ]
     ])
 
--- no channel of the station's domain leads anywhere
+-- No channel of the station's domain has an extension.
 pub none-whole : (book : BookView) (chosen : List (ℕ × ℕ)) (s : ℕ) (left : List ℕ) → NoneExtendsBy book chosen s (domain_of book s) left → NoneExtends book chosen (s ∷ left)
 unfolding assignments
 none-whole book chosen s left h = h
 
--- nothing chosen is apart
+-- No entries are apart.
 pub nothing-apart : (book : BookView) → is_apart book [] ≡ true
 unfolding is_apart
 nothing-apart book = refl
 
--- what extends nothing is a packing
+-- An extension of no entries is a packing.
 pub packs : (book : BookView) (set : List ℕ) (all : List (ℕ × ℕ)) → Extends book [] set all → IsPacking book set all
 packs book set all h =
     let is = assignments-gives book set h.more h.listed in
@@ -129,7 +129,7 @@ packs book set all h =
     } in
     subst (λ z. IsPacking book set z) (sym h.whole) packing
 
--- where nothing extends nothing, the set doesn't fit
+-- If no entries have no extension, the set doesn't fit.
 pub fits-none : (book : BookView) (set : List ℕ) → NoneExtends book [] set → fits book set ≡ false
 unfolding fits
 fits-none book set h = h

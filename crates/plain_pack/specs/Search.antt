@@ -1,30 +1,30 @@
--- What a depth-first search for a clean map says of the entries chosen so far.
+-- What a depth-first search for a clean map says about the entries chosen so far.
 use Rattle.std.specs.Prelude.{◌≡◌, ℕ, Bool, true, false, not, ◌&&◌, List, ◌∷◌, ◌++◌, Contains, map}
 use Rattle.std.specs.List.{list_any, list_all, flat_map}
 use Rattle.pack_defs.specs.Book.{BookView, is_forbidden}
 use Rattle.pack_defs.specs.Packing.{assignments, is_apart}
 
--- the entry may stand together with each of these and with itself
+-- Whether the entry is allowed together with each of these and by itself.
 abbrev pub stands_with : BookView → List (ℕ × ℕ) → ℕ × ℕ → Bool
 stands_with book chosen x = list_all (λ y. not (is_forbidden book x y)) chosen && not (is_forbidden book x x)
 
--- the chosen entries and one way to give the stations left a channel, no two of which may not stand together
+-- `all` is the chosen entries and an assignment of the stations left, no two entries of which are forbidden together.
 pub record Extends (book : BookView) (chosen : List (ℕ × ℕ)) (left : List ℕ) (all : List (ℕ × ℕ)) : Type 0 where
   pub more : List (ℕ × ℕ)
   pub listed : Contains (assignments book left) more
   pub whole : all ≡ chosen ++ more
   pub apart : is_apart book all ≡ true
 
--- no way to give the stations left a channel stands beside the chosen entries
+-- No assignment of the stations left is allowed together with the chosen entries.
 abbrev pub NoneExtends : BookView → List (ℕ × ℕ) → List ℕ → Type 0
 NoneExtends book chosen left = list_any (λ more. is_apart book (chosen ++ more)) (assignments book left) ≡ false
 
--- whether the stations left could be given channels beside the chosen entries: then they were, else nothing changed
+-- Whether the chosen entries could be extended to the stations left: if true, they were; if false, nothing changed.
 abbrev pub IsExtended : BookView → List (ℕ × ℕ) → List ℕ → List (ℕ × ℕ) → Bool → Type 0
 IsExtended book chosen left after true = Extends book chosen left after
 IsExtended book chosen left after false = (after ≡ chosen) × NoneExtends book chosen left
 
--- none extends them with one station more, on one of these channels
+-- No assignment extends them with one more station, on one of these channels.
 abbrev pub NoneExtendsBy : BookView → List (ℕ × ℕ) → ℕ → List ℕ → List ℕ → Type 0
 NoneExtendsBy book chosen s channels left =
     list_any (λ more. is_apart book (chosen ++ more))

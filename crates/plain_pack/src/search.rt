@@ -1,4 +1,4 @@
-//! Whether a set of stations fits, by a plain depth-first search without a budget.
+//! Whether a set of stations fits, by a plain depth-first search without a budget. The time may be exponential in the number of stations.
 
 ghost use Rattle.std.specs.Prelude.{◌≡◌, true, IfOk, IsTrue, IsFalse, MatchOption};
 ghost use Rattle.pack_defs.specs.Lists.{is_ascending};
@@ -9,7 +9,10 @@ use pack_defs::book::Book;
 use pack_defs::channel_map::ChannelMap;
 use std::alloc::{AllocError as NoMemory, Global};
 
-/// A clean map of exactly these stations, or `None` where there is none. The only error is want of memory.
+/// Returns a clean map of exactly these stations, or `None` if no such map exists.
+///
+/// # Errors
+/// Fails only if memory runs out.
 pub fn fits(alloc: Global, book: &Book, set: &[u32]) -> Result<Option<ChannelMap>, NoMemory>
     requires { IsTrue (is_ascending set.now) }
     ensures { IfOk result (λ found. MatchOption found (IsFalse (fits book.now set.now)) (IsPacking book.now set.now)) }
@@ -21,7 +24,8 @@ pub fn fits(alloc: Global, book: &Book, set: &[u32]) -> Result<Option<ChannelMap
     Ok(Some(ChannelMap::of(alloc, &chosen)?))
 }
 
-// Gives each of the stations left a channel beside those chosen, or leaves the chosen ones where it can't.
+// Gives each of the stations `left` a channel that fits the chosen entries. If that is impossible, returns false and leaves `chosen`
+// unchanged.
 fn extend(book: &Book, left: &[u32], chosen: &mut Vec<(u32, u8)>) -> Result<bool, NoMemory>
     requires { is_apart book.now chosen.old.items ≡ true }
     ensures { IfOk result (IsExtended book.now chosen.old.items left.now chosen.new.items) }
@@ -42,7 +46,7 @@ fn extend(book: &Book, left: &[u32], chosen: &mut Vec<(u32, u8)>) -> Result<bool
     Ok(false)
 }
 
-// Whether the station on this channel stands beside those chosen.
+// Checks whether the station may be on this channel together with the chosen entries.
 fn stands(book: &Book, chosen: &[(u32, u8)], station: u32, channel: u8) -> bool
     ensures { result ≡ stands_with book.now chosen.now (station, channel) }
 {

@@ -1,4 +1,4 @@
--- A history that goes on leaves no more queries.
+-- A history that continues leaves no more queries.
 use Rattle.std.proofs.Common.{length, ◌≡◌, ◌∙◌, ℕ, ◌<◌, ◌==◌, Bool, true, false, not, nat_le, if◌then◌else◌, List, [], ◌∷◌, ◌++◌, Option, Some, None, option_and_then, refl, sym, ap, subst, arith, inl, inr}
 use Rattle.std.proofs.lemmas.Bool.{cases_Bool, true≢false}
 use Rattle.pack_defs.specs.Book.{BookView}
@@ -30,7 +30,7 @@ goes-then sc a b c (inl h) (inr k) = let same : queries_left sc c ≡ queries_le
 goes-then sc a b c (inr h) (inl k) = let same : queries_left sc b ≡ queries_left sc a = ap (λ (s : CoreState). queries_left sc s) h in inl (omega (arith, k, same))
 goes-then sc a b c (inr h) (inr k) = inr (k ∙ ap (λ (s : CoreState). record s { noted = c.noted }) h)
 
--- a posting that isn't turned away meets a query
+-- A posting that is not turned away meets a query.
 asked : (a b c : Bool) (n : ℕ) → (if a then Some Ended else (if not b then Some (WrongQuery n) else (if c then Some Stranger else None))) ≡ None → a ≡ false
 asked true b c n e = cc
 asked false b c n e = refl
@@ -66,23 +66,23 @@ replay-goes sc book (e ∷ es) state new s =
     ] in
     go (after_entry sc book state e e.answer) refl s
 
--- an auction that began as another one did, and whose history goes on from that one's by these entries, stands where they lead
--- from there
+-- If an auction began as another one and continues its history by these entries, they lead from the other's state to
+-- its state.
 rest-replays : (old new : AuctionView) (rest : List EntryView) → beginning_of new ≡ beginning_of old → new.history ≡ old.history ++ rest → Replays old → Replays new → replay_from old.scenario old.book rest old.state ≡ Some new.state
 rest-replays old new rest begins longer h k =
     let whole : replay_from old.scenario old.book (old.history ++ rest) old.opened ≡ Some new.state =
     ap (λ es. replay_from old.scenario old.book es old.opened) (sym longer) ∙ (ap (λ (b : ClockworkView). replay_from b.scenario b.book new.history b.state) (sym begins) ∙ k) in
     replay-rest old.scenario old.book old.history rest old.opened old.state new.state h whole
 
--- so it goes on from that one's state
+-- So it continues from that one's state.
 pub later-goes : (old new : AuctionView) → beginning_of new ≡ beginning_of old → StartsWith new.history old.history → Replays old → Replays new → GoesOn old.state new.state
 later-goes old new begins starts h k = state-goes old.scenario old.book starts.0 old.state new.state (rest-replays old new starts.0 begins starts.1 h k)
 
--- and leaves no more queries
+-- It leaves no more queries.
 pub later-nears : (old new : AuctionView) → beginning_of new ≡ beginning_of old → StartsWith new.history old.history → Replays old → Replays new → NearsEnd old.scenario old.state new.state
 later-nears old new begins starts h k = replay-goes old.scenario old.book starts.0 old.state new.state (rest-replays old new starts.0 begins starts.1 h k)
 
--- the history of an auction that closes with the one that it was raised with and a tail
+-- An auction whose history at the closing of a board has the history at its opening and a tail.
 pub board-starts : (made old new : AuctionView) (tail : List (ℕ × EntryView)) → made ≡ old → numbered new.history ≡ numbered made.history ++ tail → StartsWith new.history old.history
 board-starts made old new tail over more = (
   plain_entries tail,
@@ -90,7 +90,7 @@ board-starts made old new tail over more = (
       ∙ ap (λ l. l ++ plain_entries tail) (entries-numbered made.history ∙ ap (λ (a : AuctionView). a.history) over))),
 )
 
--- a wave and a serial turn leave fewer queries
+-- A wave and a serial turn leave fewer queries.
 pub turn-fewer : (sc : Scenario) (old mid new : AuctionView) → has_ended old.state ≡ false → NearsEnd sc old.state mid.state → RestsAtEnd mid new → MovesOn sc mid.state new.state → queries_left sc new.state < queries_left sc old.state
 turn-fewer sc old mid new begun goes idle moves =
     elim (cases_Bool (has_ended mid.state)) [

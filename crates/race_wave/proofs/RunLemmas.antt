@@ -31,7 +31,7 @@ get-map f [] i d = refl
 get-map f (x ∷ xs) zero d = refl
 get-map f (x ∷ xs) (suc i) d = get-map f xs i d
 
--- the images of a list, one by one
+-- The images of a list, one by one.
 pub image-at : {X Y : Type 0} (f : X → Y) (xs : List X) (ys : List Y) (i : ℕ) (d : X) → map f xs ≡ ys → i < length ys → slice_get ys i ≡ Some (f (get_or xs i d))
 image-at f xs ys i d e lt =
     subst (λ l. slice_get l i ≡ Some (f (get_or xs i d))) e (slice_get-get_or (map f xs) i (f d) (subst (λ l. i < length l) (sym e) lt) ∙ ap (λ x. Some x) (get-map f xs i d))
@@ -56,7 +56,7 @@ long-new start (suc n) = long-more (each_new start n) (known n start []) ∙ ap 
 pub new-many : {X : Type 0} (f : X → PassKnowledge EntryView) (xs : List X) (start : List (ℕ × EntryView)) (n : ℕ) → map f xs ≡ each_new start n → length xs ≡ n
 new-many f xs start n e = sym (length_map f xs) ∙ (ap length e ∙ long-new start n)
 
--- the new pass at a place has that number
+-- The new pass at a place has the place as its number.
 new-at : (start : List (ℕ × EntryView)) (n i : ℕ) (d : PassKnowledge EntryView) → i < n → (get_or (each_new start n) i d).number ≡ i
 new-at start zero i d lt = absurd (omega arith)
 new-at start (suc n) i d lt = dite (ℕ_discrete i n)
@@ -69,21 +69,21 @@ take-left : {X : Type 0} (xs ys : List X) → take (length xs) (xs ++ ys) ≡ xs
 take-left [] ys = refl
 take-left (x ∷ xs) ys = ap (λ l. x ∷ l) (take-left xs ys)
 
--- a list that was changed in place through all of it
+-- A list that was changed in place throughout.
 pub spliced : {X : Type 0} (n : ℕ) (xs ys zs : List X) → n ≡ length xs → length ys ≡ length xs → take n (ys ++ zs) ≡ ys
 spliced n xs ys zs e f = ap (λ k. take k (ys ++ zs)) (e ∙ sym f) ∙ take-left ys zs
 
--- an answer that is this value has what the value has
+-- A property of a value holds for a result that is the value.
 pub ok-gives : {A E : Type 0} (v : A) (r : Result A E) (P : A → Type 0) → P v → IfOk r (λ x. x ≡ v) → IfOk r P
 ok-gives v (Ok x) P h is = subst P (sym is) h
 ok-gives v (Err e) P h is = is
 
--- a list that was lent, whose elements come back as others of the same image
+-- A list that was lent and whose elements have the same images as before.
 pub turned-list : {X Y : Type 0} (f : X → Y) (n : ℕ) (xs ys : List X) → n ≡ length xs → map f ys ≡ map f xs → take n (ys ++ drop (length ys) xs) ≡ ys
 turned-list f n xs ys e h = spliced n xs ys (drop (length ys) xs) e (sym (length_map f ys) ∙ (ap (λ l. length l) h ∙ length_map f xs))
 
 module _ {R : Type 0} (w : R → Worker) (board : Board) where
-  -- the passes of a new board, each with the racer of its worker
+  -- The passes of a new board, each with the racer of its worker.
   pub runners-of : (start : List (ℕ × EntryView)) (n : ℕ) (workers : List Worker) (xs : List (Runner R))
       → AreAllOn board (map standing (map (λ r. r.pass) xs)) → AllOf IsPassIdle (map (λ r. r.pass) xs) → map known_of (map (λ r. r.pass) xs) ≡ each_new start n → map w (map (λ r. r.racer) xs) ≡ workers → (raised board).scenario.workers ≡ workers
       → All (λ r. IsRunner board r.pass (w r.racer)) xs
@@ -110,7 +110,7 @@ module _ {R : Type 0} (w : R → Worker) (board : Board) where
       idle-from [] h = tt
       idle-from (y ∷ ys) h = (h.0, idle-from ys h.1)
 
-  -- what a wave leaves as it was
+  -- What a wave does not change.
   pub raced-standing : (xs ys : List (Runner R)) → AllZip (HasRaced w board) xs ys → map standing (map (λ r. r.pass) ys) ≡ map standing (map (λ r. r.pass) xs)
   raced-standing [] [] h = refl
   raced-standing [] (y ∷ ys) h = absurd h
@@ -140,16 +140,16 @@ module _ {R : Type 0} (w : R → Worker) (board : Board) where
 
 -- ---- lists that are filled from another one
 
--- nothing was put into it yet
+-- Nothing was moved yet.
 pub put-none : {X Y : Type 0} (f : X → Y) (done : List Y) (rest all : List X) → done ≡ [] → rest ≡ all → done ++ map f rest ≡ map f all
 put-none f done rest all e g = λ i. e i ++ map f (g i)
 
--- all was put into it
+-- All was moved.
 pub put-all : {X Y : Type 0} (f : X → Y) (done : List Y) (rest all : List X) (n : ℕ) → n ≡ length rest → n ≡ 0 → done ++ map f rest ≡ map f all → done ≡ map f all
 put-all f done [] all n e z h = sym (append-nil done) ∙ h
 put-all f done (x ∷ rest) all n e z h = absurd (omega (arith, e, z))
 
--- there is room for what is left
+-- The capacity suffices for what is left.
 pub room-none : {X Y : Type 0} (done : List Y) (rest all : List X) (n : ℕ) → done ≡ [] → rest ≡ all → length all ≤ n → length done + length rest ≤ n
 room-none done rest all n e g h =
     let none : length done ≡ 0 = ap (λ l. length l) e in
@@ -162,7 +162,7 @@ abbrev BoardPass : Type 0
 BoardPass = Pass Kept ClockworkView EntryView ghosts
 
 module _ {R : Type 0} (w : R → Worker) (board : Board) where
-  -- the workers of a new board, before the wave
+  -- The workers of a new board before the wave.
   pub before : (n : ℕ) (ps : List BoardPass) (rs : List R) (xs : List (Runner R))
       → AreAllOn board (map standing ps) → AllOf IsPassIdle ps → map known_of ps ≡ each_new (numbered (raised board).history) n → map w rs ≡ (raised board).scenario.workers
       → map (λ (r : Runner R). r.pass) xs ≡ ps → map (λ (r : Runner R). r.racer) xs ≡ rs
@@ -178,7 +178,7 @@ module _ {R : Type 0} (w : R → Worker) (board : Board) where
   pub as-many : (ps : List BoardPass) (n : ℕ) → map known_of ps ≡ each_new (numbered (raised board).history) n → length ps ≡ n
   as-many ps n e = new-many known_of ps (numbered (raised board).history) n e
 
-  -- what a wave leaves of the workers, in the list that it was given
+  -- The workers after the wave, in the list that was lent to it.
   pub after-wave : (n : ℕ) (xs zs ys rest : List (Runner R)) → n ≡ length xs → zs ≡ xs → AllZip (HasRaced w board) zs ys
       → (AllZip (HasRaced w board) xs (take n (ys ++ rest))) × (take n (ys ++ rest) ≡ ys)
   after-wave n xs zs ys rest long same raced =
@@ -186,12 +186,12 @@ module _ {R : Type 0} (w : R → Worker) (board : Board) where
       let is : take n (ys ++ rest) ≡ ys = spliced n xs ys rest long (raced-long w board xs ys zip) in
       (subst (λ (l : List (Runner R)). AllZip (HasRaced w board) xs l) (sym is) zip, is)
 
-  -- as many workers after it
+  -- The wave keeps their number.
   pub after-many : (rs : List R) (xs ys : List (Runner R)) → map (λ (r : Runner R). r.racer) xs ≡ rs → AllZip (HasRaced w board) xs ys → length ys ≡ length rs
   after-many rs xs ys solvers raced =
       raced-long w board xs ys raced ∙ (sym (length_map (λ (r : Runner R). r.racer) xs) ∙ ap (λ (l : List R). length l) solvers)
 
-  -- all passes are there after it
+  -- The wave keeps all passes.
   pub after-all : (ps ls : List BoardPass) (xs ys : List (Runner R)) → AreAllOn board (map standing ps)
       → map (λ (r : Runner R). r.pass) xs ≡ ps → AllZip (HasRaced w board) xs ys → ls ≡ map (λ (r : Runner R). r.pass) ys
       → AreAllOn board (map standing ls)
@@ -207,10 +207,10 @@ module _ {R : Type 0} (w : R → Worker) (board : Board) where
   after-workers rs ls xs ys solvers raced left =
       ap (map w) left ∙ (raced-workers w board xs ys raced ∙ ap (map w) solvers)
 
--- the passes of a board that was just raised
+-- The passes of a new board.
 pub new-passes : (made auction : AuctionView) (ks : List (PassKnowledge EntryView)) (n m : ℕ) → ks ≡ each_new (numbered auction.history) n → n ≡ m → made ≡ auction → ks ≡ each_new (numbered made.history) m
 new-passes made auction ks n m e same over = e ∙ (ap (λ k. each_new (numbered auction.history) k) same ∙ ap (λ (a : AuctionView). each_new (numbered a.history) m) (sym over))
 
--- there are as many workers as racers
+-- There are as many workers as racers.
 pub as-many-workers : {R : Type 0} (w : R → Worker) (rs : List R) (workers : List Worker) → map w rs ≡ workers → length workers ≡ length rs
 as-many-workers w rs workers e = sym (ap (λ (l : List Worker). length l) e) ∙ length_map w rs

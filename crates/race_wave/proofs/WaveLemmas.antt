@@ -38,7 +38,7 @@ noted-now x (n ∷ ns) = elim (cases_Bool (nat_lt x.worker n.worker)) [
   | inr ge ↦ rw ge (or_right (n.worker == x.worker) (is_noted (noted_with x ns) x.worker) (noted-now x ns))
 ]
 
--- a posting that is told so leaves its worker nothing to do
+-- A posting with such a reply leaves its worker nothing to do.
 pub rests : (sc : Scenario) (book : BookView) (state : CoreState) (p : PostingView) → is_last (take sc book state p).0 ≡ true → HasNothingLeft p.worker (take sc book state p).1
 rests sc book state p =
     take-cases sc book state p (λ out. take sc book state p ≡ out → is_last out.0 ≡ true → HasNothingLeft p.worker out.1) (record {
@@ -51,14 +51,14 @@ rests sc book state p =
       more = λ receipt t f a n k e l. inr (noted-now (record { worker = p.worker; receipt = receipt }) state.noted);
     }) refl
 
--- what holds at each place of two lists holds of both
+-- A relation that holds at each place of two lists holds of the lists.
 pub zip-each : {X : Type 0} (R : X → X → Type 0) (xs ys : List X) → length ys ≡ length xs → ((i : ℕ) (d : X) → i < length xs → R (get_or xs i d) (get_or ys i d)) → AllZip R xs ys
 zip-each R [] [] e h = tt
 zip-each R [] (y ∷ ys) e h = absurd (omega arith)
 zip-each R (x ∷ xs) [] e h = absurd (omega arith)
 zip-each R (x ∷ xs) (y ∷ ys) e h = (h 0 x (omega arith), zip-each R xs ys (omega arith) (λ i d lt. h (suc i) d (omega arith)))
 
--- what an attempt says is valid
+-- The answer of an attempt is valid.
 pub says-valid : (book : BookView) (task : Task) (worker : Worker) (last : ℕ) (attempt : Attempt) → AttemptIs book task worker last attempt → SaysValid book task worker attempt
 says-valid book task worker last (Said answer) h = h
 says-valid book task worker last (Moved now) h = tt
@@ -78,12 +78,12 @@ posted-on a b c h k = record {
   faultless = all_more (λ e. is_faultless e.1.reply ≡ true) h.more k.more h.faultless k.faultless;
 }
 
--- ---- which query stands
+-- ---- which query is current
 
 pub number-after : (board : Board) (seen : List (ℕ × EntryView)) (number : ℕ) → Sees (raised board) seen (λ state. number ≡ state.number) → IsNumberAfter board seen number
 number-after board seen number h = ap (λ o. option_map (λ (state : CoreState). state.number) o) h.replays ∙ ap Some (sym h.holds)
 
--- a query that stands is of its state's number
+-- The current query has its state's number.
 pub number-of-task : (board : Board) (seen : List (ℕ × EntryView)) (task : Task) → Sees (raised board) seen (λ state. LookIs (raised board).scenario (raised board).book state (Look.Task task)) → IsNumberAfter board seen task.number
 number-of-task board seen task h =
     let on = raised board in

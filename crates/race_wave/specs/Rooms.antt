@@ -1,8 +1,8 @@
--- Room for the workers of a wave.
+-- The buffers for the workers of a wave.
 use Rattle.std.specs.Prelude.{◌≡◌, ◌≤◌, [], ℕ, vec_capacity}
 use Rattle.race_wave.specs.declared.parting.Room.{Room}
 
--- three empty lists, each with room for as many
+-- Whether the three lists are empty, each with capacity for `count` elements.
 pub record IsRoomFor {R : Type 0} (count : ℕ) (room : Room R) : Type 0 where
   pub no_runners : room.runners.items ≡ []
   pub no_passes : room.passes.items ≡ []

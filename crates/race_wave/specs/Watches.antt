@@ -1,4 +1,4 @@
--- What a worker's poll may come to.
+-- How the state of a worker's poll may change.
 use Rattle.std.specs.Prelude.{◌≡◌, ℕ, List, Some, option_map}
 use Rattle.auction_core.specs.Clockwork.{ClockworkView}
 use Rattle.auction_core.specs.Replay.{EntryView}
@@ -11,13 +11,13 @@ use Rattle.answer_board.specs.declared.kept.Kept.{Kept}
 use Rattle.answer_board.specs.Boards.{raised}
 use Rattle.answer_board.specs.Posts.{left_by}
 
--- the history leaves a state in which this is the number of the standing query
+-- Whether the history leads to a state in which this is the number of the current query.
 abbrev pub IsNumberAfter : Board → List (ℕ × EntryView) → ℕ → Type 0
 IsNumberAfter board seen number = option_map (λ state. state.number) (left_by (raised board) seen) ≡ Some number
 
 module _ {N : Type 0} {G : Ghosts Kept ClockworkView EntryView} where
-  -- the poll is over the same board, and of the same pass, which has the same number and made no posting, has seen what it had
-  -- seen, and knows rightly which entries are its own
+  -- Whether the poll is of the same board and the same pass, which has posted nothing, has seen at least what it had
+  -- seen, and knows which entries are its own.
   pub record Goes (board : Board) (name : N) (old : Pass Kept ClockworkView EntryView G) (board' : Board) (name' : N) (new : Pass Kept ClockworkView EntryView G) : Type 0 where
     pub board_is : board' ≡ board
     pub name_is : name' ≡ name

@@ -22,16 +22,17 @@ use Rattle.answer_board.specs.Boards.{IsPassOn, raised}
 use Rattle.answer_board.specs.Posts.{Sees, is_faultless}
 use Rattle.race_wave.specs.declared.runner.Runner.{Runner}
 
--- the answer that an attempt says, where it says one, is valid
+-- Whether the answer of an attempt is valid, if it has one.
 abbrev pub SaysValid : BookView → Task → Worker → Attempt → Type 0
 SaysValid book task worker (Said answer) = IsValid book task worker answer
 SaysValid book task worker (Moved now) = ⊤
 
--- in this state the worker has nothing left to do: the auction has ended, or its receipt stands noted on the standing query
+-- Whether the worker has nothing left to do in this state: the auction has ended, or its receipt is pending on the
+-- current query.
 abbrev pub HasNothingLeft : ℕ → CoreState → Type 0
 HasNothingLeft w state = (has_ended state ≡ true) ⊎ (is_noted state.noted w ≡ true)
 
--- the worker has nothing left to do after a posting that was told this
+-- Whether the worker has nothing left to do after this reply.
 abbrev pub is_last : Reply → Bool
 is_last Ended = true
 is_last (WrongQuery now) = false
@@ -41,31 +42,31 @@ is_last (Advanced next) = false
 is_last AlreadySpent = true
 is_last Noted = true
 
--- the list goes on from the old one by entries none of which was a stranger's or was rejected
+-- Whether the list continues the old one with entries of known workers that were not rejected.
 pub record HasPosted (old new : List (ℕ × EntryView)) : Type 0 where
   pub more : List (ℕ × EntryView)
   pub is : new ≡ old ++ more
   pub faultless : AllOf (λ e. is_faultless e.1.reply ≡ true) more
 
 module _ {G : Ghosts Kept ClockworkView EntryView} where
-  -- what the worker has seen leaves nothing for it to do
+  -- Whether the worker has nothing left to do after what it has seen.
   abbrev pub SeesNothingLeft : Board → Pass Kept ClockworkView EntryView G → Type 0
   SeesNothingLeft board pass = Sees (raised board) (seen_of pass) (HasNothingLeft (pass_number pass))
 
-  -- a pass to the board, outside a turn, and the worker that its number is of
+  -- Whether this is a pass to the board, outside of a turn, and its worker.
   pub record IsRunner (board : Board) (pass : Pass Kept ClockworkView EntryView G) (worker : Worker) : Type 0 where
     pub own : IsPassOn board pass
     pub idle : IsPassIdle pass
     pub of : slice_get (raised board).scenario.workers (pass_number pass) ≡ Some worker
 
-  -- the same pass, which has seen what it had seen, and has posted no answer at fault
+  -- Whether this is the same pass, which has seen at least what it had seen and has posted no invalid answer.
   pub record IsSamePass (old new : Pass Kept ClockworkView EntryView G) : Type 0 where
     pub stands : standing new ≡ standing old
     pub seen : StartsWith (seen_of new) (seen_of old)
     pub posted : HasPosted (mine_of old) (mine_of new)
 
--- What a wave leaves of a worker: it is the same worker with the same pass, which knows rightly which entries are its own, and
--- unless it stopped for want of memory it has nothing left to do.
+-- Whether a wave leaves the same worker with the same pass, which knows which entries are its own. Unless memory ran
+-- out, the worker has nothing left to do.
 pub record HasRaced {R : Type 0} (worker_of : R → Worker) (board : Board) (old new : Runner R) : Type 0 where
   pub runner : IsRunner board new.pass (worker_of new.racer)
   pub same : IsSamePass old.pass new.pass

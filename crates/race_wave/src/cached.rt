@@ -1,6 +1,7 @@
-//! Racers that ask a cache before they search for an answer, and keep there what they found: many auctions share it. Before both are
-//! first looks, which answer most queries sooner than the cache would. The lock on it is held while what may answer is looked for,
-//! and not while that is checked, so that one racer's check keeps no other one waiting.
+//! Racers that share a cache of answers among many auctions. A racer first tries the quick fits, which answer most
+//! queries faster than the cache. Then it asks the cache. Then it searches, and puts what it found into the cache.
+//! The cache's lock is held while an entry is looked up, but not while it is checked. So a check does not block other
+//! racers.
 
 ghost use Rattle.std.specs.Prelude.{◌≡◌, IfOk, IfSome, map};
 ghost use Rattle.cert_types.specs.Query.{AttemptIs, IsQuery};
@@ -28,20 +29,18 @@ use std::alloc::{AllocError as NoMemory, Global};
 use std::sync::{Mutex, Wait};
 use std::thread::Threads;
 
-/// A worker's racer, with first looks and a cache before it. What no look answers the cache does, if the check lets through what it
-/// suggests; else the racer tries, and what it says is put into the cache. What a look finds isn't: another look takes less time than
-/// the cache, and it would take the place of what a search found.
+/// A worker's racer, with quick fits and a cache before it. A quick fit is not put into the cache. Finding it again
+/// costs less than a look-up, and it would replace the result of a search.
 ///
-/// The cache is locked while it looks for a suggestion or is put into, and neither while a suggestion is checked nor while the racer
-/// tries. Only where one is refused the cache is asked for an answer, and locked while it looks for one among all that it keeps, and
-/// checks each.
+/// The cache suggests an entry, which is then checked outside the lock. Only if it is rejected, the cache is asked
+/// for an answer: it is locked while it looks through all entries and checks each.
 #[derive(Drop)]
 pub struct Cached<'a, W: Wait, R: Racer> {
     rt: &'a W,
-    // The top channel under which the cache is asked and put into.
+    // The top channel of the cache's entries.
     top: u8,
     cache: &'a Mutex<Cache>,
-    /// The worker whose racer it is.
+    /// The worker whose racer this is.
     pub worker: Worker,
     looks: FirstLooks,
     racer: R,
@@ -49,7 +48,7 @@ pub struct Cached<'a, W: Wait, R: Racer> {
 }
 
 impl<'a, W: Wait, R: Racer> Cached<'a, W, R> {
-    /// The racer of a worker, with a cache that is asked before it under this top channel. It takes no memory by itself.
+    /// Returns the racer of a worker that asks the cache first, under this top channel. Allocates nothing.
     pub fn make(
         rt: &'a W,
         alloc: Global,
@@ -71,7 +70,7 @@ impl<'a, W: Wait, R: Racer> Cached<'a, W, R> {
         }
     }
 
-    // What the cache answers, or else what the racer says, which is put into the cache.
+    // Returns the cache's answer, or else what the racer returns, which is put into the cache.
     fn kept_or_tried<P: Poll>(
         &mut self,
         alloc: Global,
@@ -92,8 +91,8 @@ impl<'a, W: Wait, R: Racer> Cached<'a, W, R> {
         Ok(attempt)
     }
 
-    // What the cache suggests, if the check lets it through. Where memory runs out for the look or the check it is nothing, and the
-    // racer tries.
+    // Returns what the cache suggests, if the check accepts it. If memory runs out, returns `None`, and the racer
+    // searches.
     fn kept_answer(&self, alloc: Global, book: &Book, task: &Task) -> Option<Answer>
         requires { IsQuery book.now task.now }
         ensures { IfSome result (IsValid book.now task.now self.now.worker) }
@@ -107,7 +106,7 @@ impl<'a, W: Wait, R: Racer> Cached<'a, W, R> {
         }
     }
 
-    // What the cache suggests, if it does and memory suffices. The lock is held for the look alone.
+    // Returns what the cache suggests, if anything, and if memory suffices. Holds the lock for the look-up only.
     fn suggestion(&self, alloc: Global, task: &Task) -> Option<Answer> {
         let mut cache = self.cache.lock(self.rt);
         match cache.suggest(alloc, self.top, task, &self.worker) {
@@ -116,7 +115,8 @@ impl<'a, W: Wait, R: Racer> Cached<'a, W, R> {
         }
     }
 
-    // What the cache answers, if its suggestion was refused: another entry may be valid. Where only memory ran out it is nothing.
+    // Returns the cache's answer if its suggestion was rejected, since another entry may be valid. Returns `None` if
+    // memory ran out.
     fn answer_if_refused(
         &self,
         alloc: Global,
@@ -133,7 +133,7 @@ impl<'a, W: Wait, R: Racer> Cached<'a, W, R> {
         }
     }
 
-    // What the cache answers, if it does. Where memory runs out for the look it is nothing.
+    // Returns the cache's answer, if there is one and memory suffices.
     fn answer(&self, alloc: Global, book: &Book, task: &Task) -> Option<Answer>
         requires { IsQuery book.now task.now }
         ensures { IfSome result (IsValid book.now task.now self.now.worker) }
@@ -142,7 +142,7 @@ impl<'a, W: Wait, R: Racer> Cached<'a, W, R> {
         answer_in(alloc, &mut cache, self.top, book, task, &self.worker)
     }
 
-    // Puts what an attempt says into the cache. Where memory runs out for that it is said all the same, though not kept.
+    // Puts an attempt's answer into the cache. If memory runs out, the answer is not kept, but is still used.
     fn keep(&self, alloc: Global, task: &Task, attempt: &Attempt) {
         if let Attempt::Said(answer) = attempt {
             let mut cache = self.cache.lock(self.rt);
@@ -151,7 +151,7 @@ impl<'a, W: Wait, R: Racer> Cached<'a, W, R> {
     }
 }
 
-// What a cache answers, if it does; nothing where memory runs out.
+// Returns the cache's answer, or `None` if there is none or memory runs out.
 fn answer_in(
     alloc: Global,
     cache: &mut Cache,
@@ -188,7 +188,8 @@ impl<W: Wait, R: Racer> Racer for Cached<'_, W, R> {
     }
 }
 
-// A racer for each worker, in order: a solver of its kind, whose proofs may be long, with the cache that is asked before it.
+// Returns a racer for each worker, in order: a solver of its kind that may write long proofs, with the cache before
+// it.
 fn cached_racers<'a, W: Wait>(
     rt: &'a W,
     alloc: Global,
@@ -206,11 +207,12 @@ fn cached_racers<'a, W: Wait>(
     Ok(racers)
 }
 
-/// The record of the auction of this scenario and book, each round of which tests the stations by volume. It is carried out
-/// as `run_auction` does, by racers each of which asks the shared cache before it searches, under the scenario's top channel,
-/// and puts what it finds into it. Its proofs may be long, since no one reads them but the cache. Where memory runs out in
-/// the cache the auction goes on without what would have been answered or kept; the only error is want of memory of the
-/// auction itself.
+/// Runs the auction of this scenario and book, in which a round tests the stations by volume, and returns its record.
+/// Does what `run_auction` does, with racers that ask the shared cache before they search, and put what they find
+/// into it. The entries are under the scenario's top channel. Proofs may be long, since only the cache reads them.
+///
+/// If memory runs out in the cache, the auction continues without the cache's answer. Fails only if memory runs out
+/// elsewhere.
 pub fn run_cached<G: Gate + Sync, W: Threads + Wait + Sync>(
     rt: &W,
     alloc: Global,

@@ -1,8 +1,17 @@
-//! Auctions whose workers' solvers try the standing query.
+//! Runs auctions: the solvers of the workers race for each query.
 //!
-//! It may call `answer_board`, the solvers behind `solver_gate`, `batch_cache`, and `first_looks`, which come before that.
-//! `commands` calls it; no check knows of it. Read `run` first, then `wave`, with `muster`, `runner` and `parting`; then `serial`
-//! and `cached`. `watch` and `watching` are a worker's poll on a board, `standing` one without a race.
+//! The crate uses `answer_board`, the solvers behind `solver_gate`, `batch_cache` and `first_looks`. `commands` calls
+//! it; no check knows of it.
+//!
+//! Modules, in reading order:
+//!
+//! - `run`: runs a complete auction.
+//! - `wave`: the workers race on a board.
+//! - `muster`, `runner`, `parting`: pair passes with racers, and separate them again.
+//! - `serial`: the workers take one turn after another on one thread.
+//! - `cached`: a racer that asks a cache before it searches.
+//! - `watch`, `watching`: the poll of a worker on a board.
+//! - `standing`: the poll without a race.
 #![tactic(auto)]
 
 pub mod cached;

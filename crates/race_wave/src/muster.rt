@@ -1,4 +1,4 @@
-//! The workers of a wave, put together of passes and racers.
+//! Pairs the passes of a board with racers, for a wave.
 
 ghost use Rattle.std.specs.Prelude.{◌≡◌, ◌≤◌, All, [], length, map, vec_capacity};
 ghost use Rattle.turn_lock.specs.Passes.{IsPassIdle, known_of, standing};
@@ -11,7 +11,7 @@ use crate::runner::Runner;
 use answer_board::board::{Board, Pass};
 use solver_gate::racer::Racer;
 
-// The passes with the racers, in order.
+// Returns the pairs of passes and racers, in order.
 fn joined<R: Drop>(passes: Vec<Pass>, racers: Vec<R>, mut runners: Vec<Runner<R>>) -> Vec<Runner<R>>
     requires equal { length passes.items ≡ length racers.items }
     requires empty { runners.items ≡ [] }
@@ -33,7 +33,8 @@ fn joined<R: Drop>(passes: Vec<Pass>, racers: Vec<R>, mut runners: Vec<Runner<R>
     runners
 }
 
-/// The workers of a new board: its passes, each with the racer of its place. It takes no memory, since the room is there.
+/// Returns the workers of a new board: each pass with the racer at its place. Allocates nothing; the capacity is
+/// there.
 pub fn mustered<R: Racer + Drop>(
     board: &Board,
     passes: Vec<Pass>,

@@ -1,4 +1,4 @@
-//! What the workers of a wave are taken apart into.
+//! Separates the workers of a wave into passes and racers again.
 
 ghost use Rattle.std.specs.Prelude.{◌≡◌, ◌≤◌, IfOk, [], length, map, vec_capacity};
 ghost use Rattle.race_wave.specs.Rooms.{IsRoomFor};
@@ -7,7 +7,7 @@ use crate::runner::Runner;
 use answer_board::board::Pass;
 use std::alloc::{AllocError as NoMemory, Global};
 
-// Room for what the workers of a wave are put into, and for what they are taken apart into.
+// Preallocated buffers for pairing passes with racers and separating them again.
 #[derive(Drop)]
 pub(crate) struct Room<R> {
     pub(crate) runners: Vec<Runner<R>>,
@@ -15,7 +15,7 @@ pub(crate) struct Room<R> {
     pub(crate) racers: Vec<R>,
 }
 
-// Room for as many workers.
+// Returns buffers for `count` workers.
 pub(crate) fn room_for<R: Drop>(alloc: Global, count: u32) -> Result<Room<R>, NoMemory>
     ensures { IfOk result (IsRoomFor count) }
 {
@@ -30,7 +30,7 @@ pub(crate) fn room_for<R: Drop>(alloc: Global, count: u32) -> Result<Room<R>, No
     })
 }
 
-/// The passes and the racers of these workers, in order. It takes no memory, since the room is there.
+/// Returns the passes and the racers of these workers, in order. Allocates nothing; the capacity is there.
 pub fn parted<R: Drop>(
     runners: Vec<Runner<R>>,
     mut passes: Vec<Pass>,

@@ -1,4 +1,6 @@
-//! A whole auction.
+//! Runs a complete auction. Waves and serial turns alternate until the auction has ended. In a wave the racers race
+//! on a board, each on a thread of its own if one can be started. A worker whose memory ran out leaves the wave
+//! early. So a serial turn after the wave settles the current query, which is why the loop ends.
 
 ghost use Rattle.std.specs.Prelude.{◌≡◌, ◌<◌, ◌≤◌, IfOk, Some, false, length, map, true};
 ghost use Rattle.solver_gate.specs.Racers.{worker_of};
@@ -32,7 +34,8 @@ use std::alloc::{AllocError as NoMemory, Global};
 use std::sync::Wait;
 use std::thread::Threads;
 
-/// A racer for each worker, in order: a solver of its kind, with its budget and its seed. The only error is want of memory.
+/// Returns a racer for each worker, in order: a solver of its kind, with its budget and its seed. Fails only if
+/// memory runs out.
 pub fn racers_of(alloc: Global, workers: &[Worker]) -> Result<Vec<RacerKind>, NoMemory>
     ensures { IfOk result (λ racers. map worker_of racers.items ≡ workers.now) }
 {
@@ -43,7 +46,7 @@ pub fn racers_of(alloc: Global, workers: &[Worker]) -> Result<Vec<RacerKind>, No
     Ok(racers)
 }
 
-// How many workers there are.
+// Returns how many workers there are.
 fn count_of(auction: &Auction) -> u32
     ensures count { result ≡ length auction.now.scenario.workers }
     ensures some { 1 ≤ result }
@@ -51,7 +54,7 @@ fn count_of(auction: &Auction) -> u32
     auction.workers().len() as u32
 }
 
-// What a wave leaves: whether memory ran out for each worker, and the passes and racers in order.
+// The result of a wave: whether memory ran out for each worker, and the passes and racers in order.
 #[derive(Drop)]
 struct AfterWave<R> {
     done: Result<(), NoMemory>,
@@ -59,7 +62,7 @@ struct AfterWave<R> {
     racers: Vec<R>,
 }
 
-// A wave of the workers of a new board.
+// Runs a wave of the workers of a new board.
 fn waved<R: Racer + Send + Drop, G: Gate + Sync, W: Threads + Wait + Sync>(
     rt: &W,
     alloc: Global,
@@ -95,7 +98,8 @@ fn waved<R: Racer + Send + Drop, G: Gate + Sync, W: Threads + Wait + Sync>(
     }
 }
 
-// What a race leaves: whether memory ran out for each worker, the auction, which is off the board, and the racers in order.
+// The result of a race: whether memory ran out for each worker, the auction, which is off the board, and the racers
+// in order.
 #[derive(Drop)]
 struct AfterRace<R> {
     done: Result<(), NoMemory>,
@@ -103,7 +107,8 @@ struct AfterRace<R> {
     racers: Vec<R>,
 }
 
-// A wave of the workers of a new board, which is then closed. It returns early nowhere, so that nothing is let go on the way.
+// Runs a wave of the workers of a new board, and closes the board. Has no early return, because a board cannot be
+// dropped.
 fn raced_on<R: Racer + Send + Drop, G: Gate + Sync, W: Threads + Wait + Sync>(
     rt: &W,
     alloc: Global,
@@ -137,7 +142,7 @@ fn raced_on<R: Racer + Send + Drop, G: Gate + Sync, W: Threads + Wait + Sync>(
     }
 }
 
-// The auction and the racers, unless memory ran out for a worker.
+// Returns the auction and the racers, unless memory ran out for each worker.
 fn if_done<R: Drop>(
     done: Result<(), NoMemory>,
     auction: Auction,
@@ -151,7 +156,7 @@ fn if_done<R: Drop>(
     }
 }
 
-// The same as `raced`, where there is room for the workers.
+// Does what `raced` does, with the buffers given.
 fn raced_in<R: Racer + Send + Drop, G: Gate + Sync, W: Threads + Wait + Sync>(
     rt: &W,
     alloc: Global,
@@ -184,7 +189,7 @@ fn raced_in<R: Racer + Send + Drop, G: Gate + Sync, W: Threads + Wait + Sync>(
     if_done(done, auction, racers)
 }
 
-// The auction after a wave of its workers, and their racers.
+// Returns the auction after a wave of its workers, and their racers.
 fn raced<R: Racer + Send + Drop, G: Gate + Sync, W: Threads + Wait + Sync>(
     rt: &W,
     alloc: Global,
@@ -204,8 +209,8 @@ fn raced<R: Racer + Send + Drop, G: Gate + Sync, W: Threads + Wait + Sync>(
     raced_in(rt, alloc, book, auction, racers, room, gate)
 }
 
-// The auction after a wave of its workers and their serial turn behind it, and the racers. Where it hadn't ended, fewer queries
-// are left.
+// Returns the auction after a wave of its workers and a serial turn, and the racers. Unless the auction had ended,
+// fewer queries are left.
 fn wave_and_turn<R: Racer + Send + Drop, G: Gate + Sync, W: Threads + Wait + Sync>(
     rt: &W,
     alloc: Global,
@@ -226,7 +231,7 @@ fn wave_and_turn<R: Racer + Send + Drop, G: Gate + Sync, W: Threads + Wait + Syn
     Ok((auction, racers))
 }
 
-// The auction at its end, to which waves and serial turns carry it.
+// Runs waves and serial turns until the auction has ended.
 fn ended<R: Racer + Send + Drop, G: Gate + Sync, W: Threads + Wait + Sync>(
     rt: &W,
     alloc: Global,
@@ -247,9 +252,9 @@ fn ended<R: Racer + Send + Drop, G: Gate + Sync, W: Threads + Wait + Sync>(
     Ok(auction)
 }
 
-// Goes on with an auction up to its end, and answers its record. The racers, of which each worker has one, in order, race on a
-// board for its queries, each in a thread of its own where one can be made; after each race they try the standing query one
-// after another on this thread; and so on, until the auction has ended.
+// Runs an auction to its end, and returns its record. `racers` has one for each worker, in order. They race on a
+// board, each on a thread of its own if one can be started. After each race they try the current query one after
+// another on this thread, until the auction has ended.
 fn finish_with<R: Racer + Send + Drop, G: Gate + Sync, W: Threads + Wait + Sync>(
     rt: &W,
     alloc: Global,
@@ -273,10 +278,10 @@ fn finish_with<R: Racer + Send + Drop, G: Gate + Sync, W: Threads + Wait + Sync>
     Ok(record)
 }
 
-/// The record of the auction of this scenario and book, each round of which tests the stations by volume. The racers, of which
-/// each worker has one, in order, race on a board for its queries, each in a thread of its own where one can be made; after
-/// each race they try the standing query one after another on this thread; and so on, until the auction has ended. No step is shown
-/// by a proof from outside. The only error is want of memory.
+/// Runs the auction of this scenario and book, in which a round tests the stations by volume, and returns its record.
+/// `racers` has one for each worker, in order. They race on a board, each on a thread of its own if one can be
+/// started. After each race they try the current query one after another on this thread, until the auction has ended.
+/// No step is settled by a proof from outside. Fails only if memory runs out.
 pub fn run_with<R: Racer + Send + Drop, G: Gate + Sync, W: Threads + Wait + Sync>(
     rt: &W,
     alloc: Global,
@@ -295,10 +300,10 @@ pub fn run_with<R: Racer + Send + Drop, G: Gate + Sync, W: Threads + Wait + Sync
     finish_with(rt, alloc, auction, scenario, book, racers, gate)
 }
 
-/// The record of this auction, which goes on from where it stands between two postings, in its own order: the solvers of its
-/// scenario's workers are the racers that carry it on, as `run_with` does. Its start, where that was shown, and its steps so far
-/// stay, and no other step is shown by a proof from outside. Where the auction has ended, nothing is asked. The scenario and the
-/// book are the auction's. The only error is want of memory.
+/// Continues this auction from its current state, between two postings, and returns its record. The racers are the
+/// solvers of the scenario's workers, as in `run_auction`. The auction keeps its order, its start if that was
+/// settled, and its steps so far. No further step is settled by a proof from outside. If the auction has ended, no
+/// query is tried. `scenario` and `book` must be the auction's. Fails only if memory runs out.
 pub fn go_on<G: Gate + Sync, W: Threads + Wait + Sync>(
     rt: &W,
     alloc: Global,
@@ -316,8 +321,8 @@ pub fn go_on<G: Gate + Sync, W: Threads + Wait + Sync>(
     finish_with(rt, alloc, auction, scenario, book, racers, gate)
 }
 
-/// The record of the auction of this scenario and book, each round of which tests the stations by volume. The solvers of the
-/// scenario's workers are the racers that carry it out, as `run_with` does. The only error is want of memory.
+/// Runs the auction of this scenario and book, in which a round tests the stations by volume, and returns its record.
+/// The racers of `run_with` are the solvers of the scenario's workers. Fails only if memory runs out.
 pub fn run_auction<G: Gate + Sync, W: Threads + Wait + Sync>(
     rt: &W,
     alloc: Global,
@@ -333,9 +338,9 @@ pub fn run_auction<G: Gate + Sync, W: Threads + Wait + Sync>(
     run_with(rt, alloc, sc, book, racers, gate)
 }
 
-/// The record of the live auction of this scenario and book: its owners say these lines, and the stations' values stand for
-/// nothing. It is carried out as `run_auction` carries out that of the scenario of these owners, so its record has them. The
-/// only error is want of memory.
+/// Runs the live auction of this scenario and book, whose owners answer with these lines; the stations' values are
+/// ignored. Does what `run_auction` does with the scenario of these owners, so the record has the owners. Fails only
+/// if memory runs out.
 pub fn run_live<G: Gate + Sync, W: Threads + Wait + Sync>(
     rt: &W,
     alloc: Global,

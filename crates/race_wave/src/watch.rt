@@ -8,8 +8,8 @@ ghost use Rattle.answer_board.specs.Posts.{left_by};
 use answer_board::board::{Board, Pass};
 use std::sync::Wait;
 
-/// A pass that asks its board which query stands. It waits for its turn. The latest answer is the number that the history leaves
-/// which the pass has seen.
+/// A pass that asks its board for the number of the current query. It waits for its turn. The latest answer is the
+/// number that belongs to the history which the pass has seen.
 #[derive(Drop)]
 pub struct BoardPoll<'a, R: Wait> {
     pub(crate) rt: &'a R,

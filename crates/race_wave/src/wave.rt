@@ -1,4 +1,4 @@
-//! A wave: the workers of an auction try its queries on a board, each in a thread of its own.
+//! A wave: the workers of an auction race for its queries on a board, each on its own thread if one can be started.
 
 ghost use Rattle.std.specs.Prelude.{◌≡◌, ◌≢◌, [], All, IfErr, IfOk, Some, false, true, slice_get};
 ghost use Rattle.std.specs.List.{AllZip, list_all};
@@ -30,11 +30,14 @@ use std::sync::Wait;
 use std::thread;
 use std::thread::Threads;
 
-/// The workers try the queries of the auction on the board, each in a thread of its own where one can be made: each looks what
-/// stands, tries it, and posts its answer, until the auction has ended, its receipt is noted on the standing query, or memory
-/// runs out for it. An answer of a racer isn't looked at again, since the racer's contract says that it is valid. No worker has
-/// the turn while it tries a query or stands at the gate. An error comes exactly where there are workers and memory ran out for
-/// each; what was posted stands.
+/// Lets the workers try the queries of the auction on the board, each on a thread of its own if one can be started. A
+/// worker looks at the current query, tries it and posts its answer. It stops when the auction has ended, its receipt
+/// is pending on the current query, or memory runs out for it. An answer is not checked again, since the racer's
+/// contract says that it is valid. No worker holds the turn while it tries a query or waits at the gate.
+///
+/// # Errors
+///
+/// Fails only if there are workers and memory ran out for each. The postings so far stay.
 pub fn wave<R: Racer + Send, G: Gate + Sync, W: Threads + Wait + Sync>(
     rt: &W,
     alloc: Global,
@@ -64,7 +67,7 @@ pub fn wave<R: Racer + Send, G: Gate + Sync, W: Threads + Wait + Sync>(
     Ok(())
 }
 
-// Whether each worker stopped for want of memory.
+// Whether each worker stopped because memory ran out.
 fn are_refused<R>(runners: &[Runner<R>]) -> bool
     ensures { result ≡ list_all (λ r. r.refused) runners.now }
 {
@@ -96,16 +99,16 @@ fn run_part<R: Racer, G: Gate, W: Wait>(
     runner.refused = done.is_err();
 }
 
-// How a worker goes on.
+// How a worker continues.
 #[derive(Clone, Copy, Debug, PartialEq, Eq)]
 enum Onward {
-    // It looks what stands now.
+    // It looks at the current query.
     Looks,
     // It has nothing left to do.
     Rests,
 }
 
-// A worker's part of a wave, to its end.
+// Runs a worker's part of a wave to its end.
 fn race<R: Racer, G: Gate, W: Wait>(
     rt: &W,
     alloc: Global,
@@ -132,7 +135,7 @@ fn race<R: Racer, G: Gate, W: Wait>(
     unreachable!()
 }
 
-// The worker looks what stands, tries it, and posts its answer.
+// Lets the worker look at the current query, try it, and post its answer.
 fn one_look<R: Racer, G: Gate, W: Wait>(
     rt: &W,
     alloc: Global,
@@ -157,7 +160,7 @@ fn one_look<R: Racer, G: Gate, W: Wait>(
     }
 }
 
-// The worker tries a query, and posts its answer.
+// Lets the worker try a query, and posts its answer.
 fn tries<R: Racer, G: Gate, W: Wait>(
     rt: &W,
     alloc: Global,
@@ -190,7 +193,7 @@ fn tries<R: Racer, G: Gate, W: Wait>(
     }
 }
 
-// The answer of the pass's worker, let through without a look: it is valid, as its racer's contract says.
+// Returns the answer of the pass's worker as accepted without a check: its racer's contract says that it is valid.
 fn of_worker(board: &Board, book: &Book, pass: &Pass, task: &Task, answer: Answer) -> Certified
     requires valid { (worker : Worker) × (slice_get (raised board.now).scenario.workers (pass_number pass.now) ≡ Some worker) × IsValid book.now task.now worker answer }
     ensures book { result.book ≡ book.now }
@@ -201,7 +204,7 @@ fn of_worker(board: &Board, book: &Book, pass: &Pass, task: &Task, answer: Answe
     Certified::of_valid(book, task, worker, answer)
 }
 
-// The racer tries a query, while the pass asks whether it stands still.
+// Lets the racer try a query, while the pass polls whether the query is still current.
 fn attempted<R: Racer, W: Wait>(
     rt: &W,
     alloc: Global,
@@ -233,7 +236,7 @@ fn attempted<R: Racer, W: Wait>(
     racer.attempt(alloc, book, task, &mut watch)
 }
 
-// The worker posts an answer that was let through, and calls the gate before and after.
+// Posts an accepted answer, and calls the gate before and after.
 fn posts<G: Gate, W: Wait>(
     rt: &W,
     board: &Board,
@@ -266,7 +269,7 @@ fn posts<G: Gate, W: Wait>(
     Ok(Onward::Looks)
 }
 
-// Whether a worker has nothing left to do after a posting that was told this.
+// Whether a worker has nothing left to do after this reply.
 fn is_last(reply: Reply) -> bool
     ensures { result ≡ is_last reply }
 {

@@ -1,4 +1,4 @@
--- How many stations are on air, frozen and undecided, by the standings.
+-- The numbers of stations on air, frozen and undecided, from the standings.
 use Rattle.std.proofs.Common.{◌≡◌, ℕ, ◌+◌, Bool, true, false, cond, eqb, inl, inr, List, [], ◌∷◌, ◌++◌, codes, filter, Some, map, length, refl, sym, ap, ◌∙◌, subst, arith, Contains}
 use Rattle.std.specs.List.{count_by, find, sum_by}
 use Rattle.std.proofs.lemmas.Bool.{cond-true, cond-false, eqb-true, eq-eqb, ne_eqb, eqb-false, or_cases, or_parts, false≢true, true_from_ne_false}
@@ -36,7 +36,7 @@ sum_by-add : (f g : ℕ → ℕ) (xs : List ℕ) → sum_by (λ x. f x + g x) xs
 sum_by-add f g [] = refl
 sum_by-add f g (x ∷ xs) = omega (arith, sum_by-cons (λ y. f y + g y) x xs, sum_by-cons f x xs, sum_by-cons g x xs, sum_by-add f g xs)
 
--- one where the two are one, else none
+-- One if the numbers are equal, otherwise zero.
 abbrev same_as : ℕ → ℕ → ℕ
 same_as k s = cond (eqb k s) 1 0
 
@@ -62,7 +62,7 @@ sum_by-same k (f ∷ fs) apart there =
           omega (arith, sum_by-cons (same_as k) f fs, none, sum_by-same k fs apart.1 later)
     ]) refl
 
--- each entry is of one of the numbers: they are as many as the entries of each number together
+-- If each entry has one of the numbers as its key, the entries are as many as those of each number added up.
 sum-of_entries : {X : Type 0} (key : X → ℕ) (fs : List ℕ) (xs : List X) → Apart fs → ((x : X) → Contains xs x → is_in fs (key x) ≡ true) → sum_by (λ s. count_by (λ x. eqb (key x) s) xs) fs ≡ length xs
 sum-of_entries key fs [] apart within = sum_by-zero fs
 sum-of_entries key fs (x ∷ xs) apart within =
@@ -73,7 +73,7 @@ sum-of_entries key fs (x ∷ xs) apart within =
 
 -- ---- the counts of a state
 
--- a state's entries are of stations of the scenario
+-- Whether a state's entries are of stations of the scenario.
 record HasNoStranger (sc : Scenario) (st : ClockState) : Type 0 where
   on_air : (x : OnAirSince) → Contains st.on_air x → is_in (facilities sc) x.station ≡ true
   frozen : (x : FrozenAt) → Contains st.frozen x → is_in (facilities sc) x.station ≡ true
@@ -96,7 +96,7 @@ no-stranger sc book undecided tests =
           ]);
     }
 
--- a station that stands once has an entry on air exactly where its standing is on air, and so for a frozen one
+-- A station with one entry has it on air exactly if its standing is on air; the same for a frozen one.
 count_by-on_air : (st : ClockState) (s : ℕ) → entries_of st s ≡ 1 → count_by (λ (x : OnAirSince). eqb x.station s) st.on_air ≡ cond (stands_on_air (standing_of st s)) 1 0
 count_by-on_air st s once =
     elim (find_cases (λ (x : FrozenAt). eqb x.station s) st.frozen) [
@@ -121,7 +121,7 @@ count_by-map : {Y : Type 0} (p : Y → Bool) (f : ℕ → Y) (xs : List ℕ) →
 count_by-map p f [] = refl
 count_by-map p f (x ∷ xs) = omega (arith, sum_by-cons (λ y. cond (p y) 1 0) (f x) (map f xs), sum_by-cons (λ y. cond (p (f y)) 1 0) x xs, count_by-map p f xs)
 
--- as many are on air as the standings say
+-- The number on air is that of the standings.
 on_air-count : {sc : Scenario} {st : ClockState} {v : List Standing} → StationsAscend sc → AreStandings sc st v → HasNoStranger sc st → count_by stands_on_air v ≡ length st.on_air
 on_air-count {sc} {st} {v} ascend are own =
     ap (count_by stands_on_air) are.each
@@ -129,7 +129,7 @@ on_air-count {sc} {st} {v} ascend are own =
     ∙ (sym (sum_by-agree _ _ (facilities sc) (λ s there. count_by-on_air st s (are.once s (is_in-gives (facilities sc) s there))))
     ∙ sum-of_entries (λ (x : OnAirSince). x.station) (facilities sc) st.on_air (apart_from_increasing (facilities sc) ascend) own.on_air))
 
--- and as many frozen
+-- The number frozen is that of the standings.
 frozen-count : {sc : Scenario} {st : ClockState} {v : List Standing} → StationsAscend sc → AreStandings sc st v → HasNoStranger sc st → count_by stands_frozen v ≡ length st.frozen
 frozen-count {sc} {st} {v} ascend are own =
     ap (count_by stands_frozen) are.each
@@ -137,9 +137,9 @@ frozen-count {sc} {st} {v} ascend are own =
     ∙ (sym (sum_by-agree _ _ (facilities sc) (λ s there. count_by-frozen st s (are.once s (is_in-gives (facilities sc) s there))))
     ∙ sum-of_entries (λ (x : FrozenAt). x.station) (facilities sc) st.frozen (apart_from_increasing (facilities sc) ascend) own.frozen))
 
--- ---- the undecided
+-- ---- the undecided stations
 
--- as many pass as are left once those that don't are left out
+-- As many elements pass as a filter keeps.
 count_by-length : {X : Type 0} (p : X → Bool) (xs : List X) → count_by p xs ≡ length (filter p xs)
 count_by-length p [] = refl
 count_by-length p (x ∷ xs) =
@@ -150,7 +150,7 @@ count_by-length p (x ∷ xs) =
       | false ↦ λ no. let none : cond {A = ℕ} (p x) 1 0 ≡ 0 = cond-false (p x) 1 0 no in omega (arith, split, none, rest)
     ]) refl
 
--- of entries of which none has the key, none is left
+-- If no entry has the key, none is kept.
 count_by-none : {X : Type 0} (q p : X → Bool) (xs : List X) → count_by q xs ≡ 0 → count_by q (filter p xs) ≡ 0
 count_by-none q p [] none = refl
 count_by-none q p (x ∷ xs) none =
@@ -162,7 +162,7 @@ count_by-none q p (x ∷ xs) none =
       | false ↦ rest
     ]
 
--- of entries of which one alone has the key, it is left where it passes
+-- If exactly one entry has the key, it is kept exactly if it passes.
 count_by-one : {X : Type 0} (q p : X → Bool) (xs : List X) (f : X) → find q xs ≡ Some f → count_by q xs ≡ 1 → count_by q (filter p xs) ≡ cond (p f) 1 0
 count_by-one q p [] f found one = absurd (omega (arith, one))
 count_by-one q p (x ∷ xs) f found one =
@@ -186,11 +186,11 @@ count_by-one q p (x ∷ xs) f found one =
           ]
     ]) refl found
 
--- the test that froze the station is one of these
+-- Whether the test that froze the station is one of these.
 abbrev is_of : List ClockTest → FrozenAt → Bool
 is_of tests x = is_listed tests (record { round = x.round; station = x.station })
 
--- a station that stands once has a frozen entry of one of these tests exactly where its standing says so
+-- A station with one entry has it frozen by one of these tests exactly if its standing says so.
 count_by-frozen_by : (tests : List ClockTest) (st : ClockState) (s : ℕ) → entries_of st s ≡ 1 → count_by (λ (x : FrozenAt). eqb x.station s) (filter (is_of tests) st.frozen) ≡ cond (frozen_by tests s (standing_of st s)) 1 0
 count_by-frozen_by tests st s once =
     elim (find_cases (λ (x : FrozenAt). eqb x.station s) st.frozen) [
@@ -211,7 +211,7 @@ count_by-each tests st [] = refl
 count_by-each tests st (f ∷ fs) =
     omega (arith, sum_by-cons (λ (u : Bool). cond u 1 0) (frozen_by tests f (standing_of st f)) (each_frozen_by tests fs (map (standing_of st) fs)), sum_by-cons (λ s. cond (frozen_by tests s (standing_of st s)) 1 0) f fs, count_by-each tests st fs)
 
--- as many are undecided as entries are frozen by one of these tests
+-- The number undecided is that of the entries frozen by one of these tests.
 undecided-count : {sc : Scenario} {st : ClockState} {v : List Standing} (tests : List ClockTest) → StationsAscend sc → AreStandings sc st v → HasNoStranger sc st → count_by (λ (u : Bool). u) (each_frozen_by tests (facilities sc) v) ≡ count_by (is_of tests) st.frozen
 undecided-count {sc} {st} {v} tests ascend are own =
     ap (λ xs. count_by (λ (u : Bool). u) (each_frozen_by tests (facilities sc) xs)) are.each
@@ -222,14 +222,14 @@ undecided-count {sc} {st} {v} tests ascend are own =
 
 -- ---- the summary
 
--- the summary's lines, by the standings, the undecided and the total
+-- The summary's lines, from the standings, the undecided stations and the total.
 summary-lines : {sc : Scenario} {st : ClockState} {v : List Standing} (tests : List ClockTest) (us : List Bool) (total : ℕ) → StationsAscend sc → AreStandings sc st v → us ≡ each_frozen_by tests (facilities sc) v → HasNoStranger sc st → total ≡ sum_by (λ x. x.price) st.frozen →
     count_line (codes "stations") (length v) ++ count_line (codes "on-air") (count_by stands_on_air v) ++ count_line (codes "frozen") (count_by stands_frozen v) ++ count_line (codes "undecided") (count_by (λ u. u) us) ++ count_line (codes "total") total ≡ summary_text sc st tests
 unfolding summary_text
 summary-lines {sc} {st} {v} tests us total ascend are marks own paid =
     rw (marks, length-standings are, on_air-count ascend are own, frozen-count ascend are own, undecided-count tests ascend are own, paid) refl
 
--- the same of the clock rule's end
+-- The same at the end of the clock rule.
 pub rule-summary : {sc : Scenario} {v : List Standing} (book : BookView) (order : Order) (tests : List ClockTest) (us : List Bool) (total : ℕ) → StationsAscend sc → AreStandings sc (clock_rule sc book order tests) v → us ≡ each_frozen_by tests (facilities sc) v → total ≡ sum_by (λ x. x.price) (clock_rule sc book order tests).frozen →
     count_line (codes "stations") (length v) ++ count_line (codes "on-air") (count_by stands_on_air v) ++ count_line (codes "frozen") (count_by stands_frozen v) ++ count_line (codes "undecided") (count_by (λ u. u) us) ++ count_line (codes "total") total ≡ summary_text sc (clock_rule sc book order tests) tests
 unfolding clock_rule

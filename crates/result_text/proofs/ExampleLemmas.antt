@@ -48,7 +48,7 @@ three-auction budget = record {
   workers = omega arith;
 }
 
--- the record of an ended auction of the three stations
+-- The record of an ended auction of three stations.
 ended-three : (budget : ℕ) (postings : List PostingView) → has_ended (state_after (learner budget ∷ []) postings) ≡ true → IsBacked (auction_of_three (learner budget ∷ [])) three_stations ByFacility (record_of (auction_of_three (learner budget ∷ [])) (state_after (learner budget ∷ []) postings))
 ended-three budget postings e =
     let sc : Scenario = auction_of_three (learner budget ∷ []) in
@@ -107,7 +107,7 @@ with-limits budget value volume some most value_most some_volume volume_most = r
   prover = refl;
 }
 
--- the three stations' bids
+-- The bids of the three stations.
 pub with-three : (workers : List Worker) → record (auction_of_three workers) { stations = three_with 70 1 } ≡ auction_of_three workers
 unfolding three_bids
 with-three workers = refl
@@ -136,18 +136,18 @@ none-limits = record {
 
 -- ---- what the tests build
 
--- an auction of these stations
+-- An auction of these stations.
 pub scenario-is : (budget : ℕ) (decrements : List ℕ) (stations : List Station) (workers : List Worker) → decrements ≡ 40 ∷ 40 ∷ [] → workers ≡ learner budget ∷ [] →
     record { version = 1; top = 15; opening = 100; fall = Listed decrements; stations = stations; workers = workers; owners = None } ≡ record (auction_of_three (learner budget ∷ [])) { stations = stations }
 unfolding three_bids
 scenario-is budget decrements stations workers e f = rw (e, f) refl
 
--- a record of the three stations
+-- A record of three stations.
 pub three-is : (budget : ℕ) (last : Shown) (sc : Scenario) (steps : List Step) → sc ≡ auction_of_three (learner budget ∷ []) → steps ≡ steps_of_three last →
     record { scenario = sc; order = ByFacility; ending = Done; start = Empty; steps = steps; map = (1, 15) ∷ (2, 14) ∷ []; total = 60 } ≡ record_of_three budget last
 three-is budget last sc steps e f = rw (e, f) refl
 
--- a record of no station
+-- A record of no station.
 pub none-is : (sc : Scenario) (stations : List Station) (steps : List Step) → sc ≡ record (auction_of_three (learner 1000 ∷ [])) { stations = stations } → stations ≡ [] → steps ≡ [] →
     record { scenario = sc; order = ByFacility; ending = Done; start = Empty; steps = steps; map = []; total = 0 } ≡ record_of_none
 unfolding three_bids
@@ -168,7 +168,7 @@ undecided-held last e f g = held three_stations (record_of_three 1 spent_on) (un
 pub none-held : {rec : Record} (book : BookView) → rec ≡ record_of_none → IsHeld book rec
 none-held book e = held book record_of_none (none-backed book, none-limits) refl e
 
--- the auctions that the tests carry through
+-- The auctions that the tests run.
 pub three-of_auction : (sc : Scenario) (book : BookView) (value volume : ℕ) → value ≤ 1000 → 1 ≤ volume → volume ≤ 1000 → sc ≡ record (auction_of_three (learner 1000 ∷ [])) { stations = three_with value volume } → book ≡ three_stations → IsOfAuction sc book
 unfolding three_stations three_bids
 three-of_auction sc book value volume value_most some_volume volume_most e f =

@@ -1,4 +1,4 @@
--- Where the stations stand, and which are undecided, after one step more of a record.
+-- The standings and the undecided stations after another step of a record.
 use Rattle.std.proofs.Common.{◌≡◌, ◌∙◌, ℕ, zero, suc, ◌+◌, ◌<◌, ◌≤◌, ◌==◌, true, false, if◌then◌else◌, List, [], ◌∷◌, Option, Some, None, find, map, take, length, get_or, set, replicate, refl, sym, ap, subst, arith}
 use Rattle.std.proofs.lemmas.Bool.{true≢false}
 use Rattle.std.proofs.lemmas.List.{length-map, take_all}
@@ -26,40 +26,40 @@ use Rattle.auction_core.proofs.Paid.{active-unpaid, answer-clock}
 use Rattle.result_text.specs.ResultText.{each_frozen_by, frozen_by}
 use Rattle.result_text.proofs.StepLemmas.{IsNext, backed-clock}
 
--- a scenario within the limits and a book in order are an auction
+-- A scenario within the limits and a book in order are an auction.
 pub auction-of : (sc : Scenario) (book : BookView) → IsWithinLimits sc → IsInOrder book → IsAuction sc book
 auction-of sc book limits in_order = record { stations = limits.ascend; in_order = in_order; workers = limits.some_worker }
 
 -- ---- the standings
 
--- the station of the next step stands somewhere
+-- The station of the next step has a standing.
 pub next-there : {sc : Scenario} {rec : Record} {steps : List Step} {k : ℕ} {x : Step} (stations : List Station) → IsNext sc rec steps k x → stations ≡ sc.stations → is_in (map (λ y. y.id) stations) x.station ≡ false → ⊥
 next-there {sc} {rec} {steps} {k} {x} stations next same absent =
     true≢false (sym (is_in-from (facilities sc) x.station next.station) ∙ subst (λ (ys : List Station). is_in (map (λ y. y.id) ys) x.station ≡ false) same absent)
 
--- where it stands, it is active
+-- The station is active there.
 pub next-active : {sc : Scenario} {rec : Record} {steps : List Step} {k : ℕ} {x : Step} {v : List Standing} (i : ℕ) → IsNext sc rec steps k x → AreStandings sc (after_steps sc (after_start sc rec.order rec.start) (take k steps)).clock v → i < length sc.stations → get_or (facilities sc) i 0 ≡ x.station → get_or v i Active ≡ Active
 next-active {sc} {rec} {steps} {k} {x} {v} i next are h at = active-is (get_or v i Active) (sym (is_active_at i x.station Active are h at) ∙ next.active)
 
--- it isn't paid
+-- The station is not paid.
 pub next-unpaid : {sc : Scenario} {rec : Record} {steps : List Step} {k : ℕ} {x : Step} {v : ClockView} (i : ℕ) → IsNext sc rec steps k x → IsClockOf sc (after_steps sc (after_start sc rec.order rec.start) (take k steps)).clock v → i < length sc.stations → get_or (facilities sc) i 0 ≡ x.station → price_of (get_or (facilities sc) i 0) v.paid ≡ None
 next-unpaid {sc} {rec} {steps} {k} {x} {v} i next is h at = ap (λ f. price_of f v.paid) at ∙ active-unpaid i x.station is h at next.active
 
--- and it alone moves
+-- Only this station moves.
 pub next-clock : {sc : Scenario} {rec : Record} {steps : List Step} {k : ℕ} {x : Step} {v : ClockView} (i : ℕ) → IsNext sc rec steps k x → StationsAscend sc → IsClockOf sc (after_steps sc (after_start sc rec.order rec.start) (take k steps)).clock v → i < length sc.stations → get_or (facilities sc) i 0 ≡ x.station →
     IsClockOf sc (after_steps sc (after_start sc rec.order rec.start) (take (k + 1) steps)).clock (answered_clock sc (test_of x) i (shows_room x.shown) v)
 next-clock {sc} {rec} {steps} {k} {x} {v} i next ascend are h at =
     subst (λ p. IsClockOf sc p.clock (answered_clock sc (test_of x) i (shows_room x.shown) v)) (sym next.moves)
     (answer-clock i (test_of x) (shows_room x.shown) ascend are h at next.active)
 
--- after a backed record's last step the clock is the rule's
+-- After a backed record's last step the clock is the rule's.
 pub last-clock : {sc : Scenario} {v : ClockView} (book : BookView) (rec : Record) (steps : List Step) (k : ℕ) → IsAuction sc book → IsBacked sc book rec.order rec → rec.ending ≡ Done → steps ≡ rec.steps → length steps ≤ k → IsClockOf sc (after_steps sc (after_start sc rec.order rec.start) (take k steps)).clock v → IsClockOf sc (clock_rule sc book rec.order (undecided_of rec.steps)) v
 last-clock {sc} {v} book rec steps k a backed done same h are =
     subst (λ z. IsClockOf sc z v) (ap (λ ys. (after_steps sc (after_start sc rec.order rec.start) ys).clock) (take_all k steps h ∙ same) ∙ backed-clock sc book rec a backed done) are
 
--- ---- the undecided
+-- ---- the undecided stations
 
--- as many are asked about as there are stations
+-- The list has an element for each station.
 pub length-each : (tests : List ClockTest) (fs : List ℕ) (xs : List Standing) → length xs ≡ length fs → length (each_frozen_by tests fs xs) ≡ length fs
 length-each tests [] xs same = refl
 length-each tests (f ∷ fs) [] same = absurd (omega arith)
@@ -70,7 +70,7 @@ length-frozen {sc} {st} {v} tests are =
     let n = length-map sc.stations (λ (x : Station). x.id) in
     length-each tests (facilities sc) v (length-standings are ∙ sym n) ∙ n
 
--- one station that stands otherwise
+-- One station changes its standing.
 each-set : (tests : List ClockTest) (fs : List ℕ) (xs : List Standing) (i : ℕ) (y : Standing) → i < length fs → each_frozen_by tests fs (set xs i y) ≡ set (each_frozen_by tests fs xs) i (frozen_by tests (get_or fs i 0) y)
 each-set tests [] xs i y h = absurd (omega arith)
 each-set tests (f ∷ fs) [] zero y h = refl
@@ -78,11 +78,11 @@ each-set tests (f ∷ fs) [] (suc i) y h = refl
 each-set tests (f ∷ fs) (x ∷ xs) zero y h = refl
 each-set tests (f ∷ fs) (x ∷ xs) (suc i) y h = ap (λ us. frozen_by tests f x ∷ us) (each-set tests fs xs i y (omega arith))
 
--- where a test fits, its station isn't frozen
+-- If a test fits, its station is not frozen.
 fits-unfrozen : (sc : Scenario) (tests : List ClockTest) (t : ClockTest) → frozen_by tests t.station (answered_standing sc t true) ≡ false
 fits-unfrozen sc tests t = elim (exits sc t) as (λ b. frozen_by tests t.station (if b then OnAir t.round else Active) ≡ false) [ true ↦ refl | false ↦ refl ]
 
--- a step's station is frozen by one of these tests exactly where the step is shown undecided
+-- A step's station is frozen by one of these tests exactly if the step is undecided.
 answered-frozen : (sc : Scenario) (tests : List ClockTest) (t : ClockTest) (shown : Shown) → is_listed tests t ≡ is_undecided shown → frozen_by tests t.station (answered_standing sc t (shows_room shown)) ≡ is_undecided shown
 answered-frozen sc tests t Empty h = fits-unfrozen sc tests t
 answered-frozen sc tests t (Fits delta) h = fits-unfrozen sc tests t
@@ -92,7 +92,7 @@ answered-frozen sc tests t (Refuted worker how) h = h
 answered-frozen sc tests t (Outside proof) h = h
 answered-frozen sc tests t (Undecided receipts) h = h
 
--- one step more
+-- The list after another step.
 pub next-frozen : {sc : Scenario} {rec : Record} {steps : List Step} {k : ℕ} {x : Step} (v : List Standing) (i : ℕ) → IsNext sc rec steps k x → i < length sc.stations → get_or (facilities sc) i 0 ≡ x.station →
     set (each_frozen_by (undecided_of rec.steps) (facilities sc) v) i (is_undecided x.shown) ≡ each_frozen_by (undecided_of rec.steps) (facilities sc) (set v i (answered_standing sc (test_of x) (shows_room x.shown)))
 next-frozen {sc} {rec} {steps} {k} {x} v i next h at =
@@ -102,7 +102,7 @@ next-frozen {sc} {rec} {steps} {k} {x} v i next h at =
     sym (each-set U (facilities sc) v i y (omega (arith, h, n))
     ∙ ap (set (each_frozen_by U (facilities sc) v) i) (ap (λ f. frozen_by U f y) at ∙ answered-frozen sc U (test_of x) x.shown next.listed))
 
--- at the opening no station is frozen
+-- At the opening no station is frozen.
 none-frozen : (tests : List ClockTest) (st : ClockState) (fs : List ℕ) → st.frozen ≡ [] → replicate (length fs) false ≡ each_frozen_by tests fs (map (standing_of st) fs)
 none-frozen tests st [] none = refl
 none-frozen tests st (f ∷ fs) none =

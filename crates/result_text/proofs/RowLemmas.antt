@@ -1,4 +1,4 @@
--- The rows of the result, by the standings.
+-- The rows of the result, from the standings.
 use Rattle.std.proofs.Common.{◌≡◌, ℕ, zero, suc, ◌+◌, ◌<◌, ◌%◌, ◌^◌, Bool, false, if◌then◌else◌, eqb, inl, inr, List, [], ◌∷◌, ◌++◌, Some, option_map, unwrap_or, map, take, length, get_or, refl, sym, ap, ◌∙◌, arith, add-one, append_assoc, decimal, ne_eqb}
 use Rattle.std.specs.List.{filter_map, cons_option, find, flat_map, list_any}
 use Rattle.std.proofs.lemmas.Bool.{eqb-true}
@@ -40,9 +40,9 @@ pub entry-plain : (facility channel : ℕ) → facility < 2 ^ 64 → channel < 2
 unfolding fields_text is_blank
 entry-plain facility channel f c = rw (decimal-plain facility f, decimal-plain channel c) (simp (append-nil, append_assoc))
 
--- ---- the lines by the standings
+-- ---- the lines, from the standings
 
--- the row of a frozen station, of this number
+-- The row of a frozen station with this number.
 frozen_of : List ClockTest → FrozenAt → ℕ → ResultRow
 frozen_of tests x s = record {
   facility = s;
@@ -51,7 +51,7 @@ frozen_of tests x s = record {
   price = x.price;
 }
 
--- a station's row is that of its standing, of whether an undecided test froze it, and of its price, if it is frozen
+-- A station's row depends on its standing, on whether an undecided test froze it, and on its price if it is frozen.
 row_of-line : (tests : List ClockTest) (st : ClockState) (s price : ℕ) (rest : List ResultRow) → ((x : FrozenAt) → find (λ (y : FrozenAt). eqb y.station s) st.frozen ≡ Some x → price ≡ x.price) → flat_map row_line (cons_option (row_of tests st s) rest) ≡ standing_line s (standing_of st s) (frozen_by tests s (standing_of st s)) price ++ flat_map row_line rest
 unfolding frozen_of
 row_of-line tests st s price rest own =
@@ -69,13 +69,13 @@ rows-lines tests st paid (f ∷ fs) each =
     row_of-line tests st f (price_in paid f) (filter_map (row_of tests st) fs) (λ x found. ap (λ o. unwrap_or o 0) (each f ∙ ap (option_map (λ (y : FrozenAt). y.price)) found))
     ∙ ap (λ ls. standing_line f (standing_of st f) (frozen_by tests f (standing_of st f)) (price_in paid f) ++ ls) (rows-lines tests st paid fs each)
 
--- the result by the standings
+-- The result, from the standings.
 result_text-standings : {sc : Scenario} {st : ClockState} {v : ClockView} (tests : List ClockTest) → IsClockOf sc st v → header_line ++ standing_lines v.paid (facilities sc) v.standings (each_frozen_by tests (facilities sc) v.standings) ≡ result_text sc st tests
 unfolding result_text result_rows
 result_text-standings {sc} {st} {v} tests is =
     ap (λ ls. header_line ++ ls) (ap (λ xs. standing_lines v.paid (facilities sc) xs (each_frozen_by tests (facilities sc) xs)) is.standings.each ∙ sym (rows-lines tests st v.paid (facilities sc) is.paid.each))
 
--- one line more
+-- The lines with another station.
 standing_lines_more : (paid : List (ℕ × ℕ)) (fs : List ℕ) (xs : List Standing) (us : List Bool) (i : ℕ) (d : Standing) (u : Bool) → i < length fs → i < length xs → i < length us → standing_lines paid (take (i + 1) fs) (take (i + 1) xs) (take (i + 1) us) ≡ standing_lines paid (take i fs) (take i xs) (take i us) ++ standing_line (get_or fs i 0) (get_or xs i d) (get_or us i u) (price_in paid (get_or fs i 0))
 standing_lines_more paid fs xs us i d u h k m = rw add-one (next fs xs us i h k m)
   where
@@ -87,7 +87,7 @@ standing_lines_more paid fs xs us i d u h k m = rw add-one (next fs xs us i h k 
     next (f ∷ fs) (x ∷ xs) (w ∷ us) (suc i) h k m =
         ap (λ ls. standing_line f x w (price_in paid f) ++ ls) (next fs xs us i (omega arith) (omega arith) (omega arith)) ∙ sym (append_assoc (standing_line f x w (price_in paid f)) (standing_lines paid (take i fs) (take i xs) (take i us)) (standing_line (get_or fs i 0) (get_or xs i d) (get_or us i u) (price_in paid (get_or fs i 0))))
 
--- the rows so far, and one more
+-- The rows so far, and another one.
 pub rows_more : (paid : List (ℕ × ℕ)) (stations : List Station) (xs : List Standing) (us : List Bool) (i : ℕ) (a : Station) (d : Standing) (u : Bool) → i < length stations → length xs ≡ length stations → length us ≡ length stations →
     (header_line ++ standing_lines paid (take i (map (λ x. x.id) stations)) (take i xs) (take i us)) ++ standing_line (get_or stations i a).id (get_or xs i d) (get_or us i u) (price_in paid (get_or stations i a).id) ≡ header_line ++ standing_lines paid (take (i + 1) (map (λ x. x.id) stations)) (take (i + 1) xs) (take (i + 1) us)
 rows_more paid stations xs us i a d u h same also =
@@ -98,7 +98,7 @@ rows_more paid stations xs us i a d u h same also =
     (ap (λ f. standing_lines paid (take i ids) (take i xs) (take i us) ++ standing_line f (get_or xs i d) (get_or us i u) (price_in paid f)) (sym (get_or-map (λ (x : Station). x.id) stations i a 0 h))
     ∙ sym (standing_lines_more paid ids xs us i d u (omega (arith, n)) (omega (arith, same)) (omega (arith, also))))
 
--- the whole result
+-- The complete result.
 pub rows-text : {sc : Scenario} {st : ClockState} {v : ClockView} (tests : List ClockTest) (stations : List Station) (us : List Bool) → IsClockOf sc st v → stations ≡ sc.stations → us ≡ each_frozen_by tests (facilities sc) v.standings → header_line ++ standing_lines v.paid (map (λ x. x.id) stations) v.standings us ≡ result_text sc st tests
 rows-text {sc} {st} {v} tests stations us is same marks =
     ap (λ (ys : List Station). header_line ++ standing_lines v.paid (map (λ x. x.id) ys) v.standings us) same

@@ -1,4 +1,4 @@
--- The steps of a backed record go where the clock rule goes.
+-- The steps of a backed record follow the clock rule.
 use Rattle.std.proofs.Common.{◌≡◌, ℕ, zero, suc, ◌+◌, ◌<◌, ◌≤◌, Bool, true, false, if◌then◌else◌, inl, inr, List, [], ◌∷◌, ◌++◌, map, take, length, get_or, refl, sym, ap, ◌∙◌, subst, arith, Contains}
 use Rattle.std.proofs.lemmas.List.{take_more}
 use Rattle.std.proofs.lemmas.List.Elements.{Contains-append_cases, Contains-get_or}
@@ -41,14 +41,14 @@ tests_of-has xs r (suc n) t h =
           (rest.0, omega (arith, rest.1), omega (arith, rest.2))
     ]
 
--- a test of the clock is of a station of the scenario, in one of its rounds
+-- A test of the clock is of a station of the scenario, in one of its rounds.
 clock_tests-has : (sc : Scenario) (order : Order) (t : ClockTest) → Contains (clock_tests sc order) t → Contains (facilities sc) t.station × (1 ≤ t.round) × (t.round ≤ last_round sc)
 clock_tests-has sc order t h =
     let has = tests_of-has (bidders_in_turn sc order) 1 (last_round sc) t h in
     let comes = (Contains-from_filter _ (turns sc order) t.station has.0).0 in
     (is_in-gives (facilities sc) t.station (sym (turns-have sc order t.station) ∙ is_in-from (turns sc order) t.station comes), has.1, omega (arith, has.2))
 
--- what the rule asks is among the tests
+-- Every test that the rule asks is among the tests.
 asked_from-has : (sc : Scenario) (book : BookView) (undecided tests : List ClockTest) (st : ClockState) (t : ClockTest) → Contains (asked_from sc book undecided tests st) t → Contains tests t
 asked_from-has sc book undecided [] st t h = h
 asked_from-has sc book undecided (u ∷ tests) st t h =
@@ -60,19 +60,19 @@ asked_from-has sc book undecided (u ∷ tests) st t h =
       | false ↦ λ m. Contains-there u t tests (asked_from-has sc book undecided tests st t m)
     ]) h
 
--- ---- steps in turn
+-- ---- steps in order
 
--- each step is of a station that is active when it comes
+-- Whether each step is of a station that is active at that step.
 abbrev AreAsked : Scenario → CoreState → List Step → Type 0
 AreAsked sc state [] = Unit {0}
 AreAsked sc state (x ∷ xs) = (is_active state.clock x.station ≡ true) × AreAsked sc (settled sc state (test_of x) x.shown) xs
 
--- each step is of an active station, and the clock follows the rule through these tests
+-- Whether each step is of an active station, and the clock follows the rule through these tests.
 record FollowsRule (sc : Scenario) (book : BookView) (U ts : List ClockTest) (state : CoreState) (steps : List Step) : Type 0 where
   asked : AreAsked sc state steps
   clock : (after_steps sc state steps).clock ≡ after_tests sc book U ts state.clock
 
--- steps that are the tests left that the rule asks, each shown as it has to be
+-- Whether the steps are the tests left that the rule asks, each settled correctly.
 record IsLeft (sc : Scenario) (book : BookView) (U ts : List ClockTest) (state : CoreState) (steps : List Step) : Type 0 where
   on_air : IsOf sc book state.clock state.map
   fits : FitsStand sc book state
@@ -80,7 +80,7 @@ record IsLeft (sc : Scenario) (book : BookView) (U ts : List ClockTest) (state :
   shown : AreShown sc book state steps
   listed : AreListed U steps
 
--- where the next test is asked, the first step is its
+-- If the next test is asked, the first step is its step.
 asked-follows : (sc : Scenario) (book : BookView) (U ts : List ClockTest) (state : CoreState) (x : Step) (xs : List Step) → is_active state.clock x.station ≡ true → (settled sc state (test_of x) x.shown).clock ≡ after_test sc book U state.clock (test_of x) → FollowsRule sc book U ts (settled sc state (test_of x) x.shown) xs → FollowsRule sc book U (test_of x ∷ ts) state (x ∷ xs)
 asked-follows sc book U ts state x xs active moved rest =
     record { asked = (active, rest.asked); clock = rest.clock ∙ ap (after_tests sc book U ts) moved }
@@ -125,7 +125,7 @@ follows sc book U (t ∷ ts) done state xs a e left =
 after_steps_more : (sc : Scenario) (state : CoreState) (xs : List Step) (k : ℕ) (d : Step) → k < length xs → after_steps sc state (take (k + 1) xs) ≡ settled sc (after_steps sc state (take k xs)) (test_of (get_or xs k d)) (get_or xs k d).shown
 after_steps_more sc state xs k d h = ap (after_steps sc state) (take_more xs k d h) ∙ after_steps-push sc state (take k xs) (get_or xs k d)
 
--- the step at one place is of a station that is active when it comes
+-- The step at a place is of a station that is active at that step.
 asked_at : (sc : Scenario) (state : CoreState) (xs : List Step) (k : ℕ) (d : Step) → AreAsked sc state xs → k < length xs → is_active (after_steps sc state (take k xs)).clock (get_or xs k d).station ≡ true
 asked_at sc state [] k d asked h = absurd (omega arith)
 asked_at sc state (x ∷ xs) zero d asked h = asked.0
@@ -133,11 +133,11 @@ asked_at sc state (x ∷ xs) (suc k) d asked h = asked_at sc (settled sc state (
 
 -- ---- a backed record
 
--- what a record of an auction that is done holds
+-- The contents of the record of a finished auction.
 pub carried-through : (sc : Scenario) (book : BookView) (rec : Record) → IsBacked sc book rec.order rec → rec.ending ≡ Done → IsCarriedThrough sc book rec.order rec
 carried-through sc book rec backed done = subst (IsEnded sc book rec.order rec) done backed.rest
 
--- a step's test is among the undecided exactly where the step is shown so
+-- A step's test is among the undecided exactly if the step is undecided.
 record-listed : (sc : Scenario) (book : BookView) (rec : Record) → IsAuction sc book → IsCarriedThrough sc book rec.order rec → AreListed (undecided_of rec.steps) rec.steps
 unfolding asked_tests
 record-listed sc book rec a carried =
@@ -156,12 +156,12 @@ record-follows sc book rec a backed done =
       listed = record-listed sc book rec a carried;
     })
 
--- the clock after its steps is that of the rule
+-- The clock after the record's steps is that of the rule.
 pub backed-clock : (sc : Scenario) (book : BookView) (rec : Record) → IsAuction sc book → IsBacked sc book rec.order rec → rec.ending ≡ Done → (after_steps sc (after_start sc rec.order rec.start) rec.steps).clock ≡ clock_rule sc book rec.order (undecided_of rec.steps)
 unfolding clock_rule
 backed-clock sc book rec a backed done = (record-follows sc book rec a backed done).clock
 
--- each of its steps is of a station of the scenario, in one of its rounds
+-- Each step of the record is of a station of the scenario, in one of its rounds.
 backed-step : (sc : Scenario) (book : BookView) (rec : Record) (k : ℕ) (d : Step) → IsCarriedThrough sc book rec.order rec → k < length rec.steps →
     Contains (facilities sc) (get_or rec.steps k d).station × (1 ≤ (get_or rec.steps k d).round) × ((get_or rec.steps k d).round ≤ last_round sc)
 unfolding asked_tests
@@ -171,7 +171,7 @@ backed-step sc book rec k d carried h =
     subst (λ ts. Contains ts (test_of (get_or rec.steps k d))) carried.tests (Contains-map test_of rec.steps (get_or rec.steps k d) (Contains-get_or rec.steps k d h)) in
     clock_tests-has sc rec.order (test_of (get_or rec.steps k d)) (asked_from-has sc book U (clock_tests sc rec.order) (opening_state sc) (test_of (get_or rec.steps k d)) asked)
 
--- what is known of the step after the first k of a record
+-- The facts about the step after the first k of a record.
 pub record IsNext (sc : Scenario) (rec : Record) (steps : List Step) (k : ℕ) (x : Step) : Type 0 where
   pub station : Contains (facilities sc) x.station
   pub begun : 1 ≤ x.round
@@ -180,7 +180,7 @@ pub record IsNext (sc : Scenario) (rec : Record) (steps : List Step) (k : ℕ) (
   pub moves : after_steps sc (after_start sc rec.order rec.start) (take (k + 1) steps) ≡ settled sc (after_steps sc (after_start sc rec.order rec.start) (take k steps)) (test_of x) x.shown
   pub listed : is_listed (undecided_of rec.steps) (test_of x) ≡ is_undecided x.shown
 
--- each of a backed record's steps is one that comes next
+-- They hold for each step of a backed record.
 pub backed-next : (sc : Scenario) (book : BookView) (rec : Record) (steps : List Step) (k : ℕ) (x : Step) → IsAuction sc book → IsBacked sc book rec.order rec → rec.ending ≡ Done → steps ≡ rec.steps → k < length steps → x ≡ get_or steps k x → IsNext sc rec steps k x
 backed-next sc book rec steps k x a backed done same h is =
     let within : k < length rec.steps = subst (λ ys. k < length ys) same h in

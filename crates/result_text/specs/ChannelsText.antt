@@ -2,14 +2,14 @@
 use Rattle.std.specs.Prelude.{ℕ, List, ◌++◌, codes, decimal}
 use Rattle.std.specs.List.{flat_map}
 
--- a line of a station and its channel
+-- The line of a station and its channel.
 abbrev pub channel_line : ℕ × ℕ → List ℕ
 channel_line x = decimal x.0 ++ codes "," ++ decimal x.1 ++ codes "\n"
 
--- the first line of the channels
+-- The first line of the channels.
 unfoldable pub channels_header : List ℕ
 channels_header = codes "facility,channel\n"
 
--- the channels of a map's stations, ascending by facility as the map does
+-- The channels of a map's stations, ascending by facility as the map is.
 unfoldable pub channels_text : List (ℕ × ℕ) → List ℕ
 channels_text entries = channels_header ++ flat_map channel_line entries

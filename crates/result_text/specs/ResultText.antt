@@ -14,27 +14,27 @@ use Rattle.auction_core.specs.Backed.{undecided_of}
 use Rattle.auction_core.specs.declared.clock.Standing.{Standing}
 use Rattle.auction_core.specs.declared.clock.Standing.TheVariants as standing
 
--- the state at the end of the clock rule, with those tests left open that this record shows undecided
+-- The state at the end of the clock rule, with the tests that the record shows undecided left undecided.
 abbrev pub final_state : Record → BookView → ClockState
 final_state rec book = clock_rule rec.scenario book rec.order (undecided_of rec.steps)
 
--- the word for an outcome
+-- The word for an outcome.
 abbrev pub outcome_word : Outcome → List ℕ
 outcome_word Start = codes "start"
 outcome_word Exit = codes "exit"
 outcome_word Frozen = codes "frozen"
 outcome_word Undecided = codes "undecided"
 
--- a line of four fields with commas between: a facility, what became of it, the round and the price
+-- A line of four fields with commas between them: the facility, the outcome, the round and the price.
 abbrev pub row_fields : ℕ → List ℕ → ℕ → ℕ → List ℕ
 row_fields facility word round price =
     decimal facility ++ codes "," ++ word ++ codes "," ++ decimal round ++ codes "," ++ decimal price ++ codes "\n"
 
--- a line of the result
+-- A line of the result.
 abbrev pub row_line : ResultRow → List ℕ
 row_line row = row_fields row.facility (outcome_word row.outcome) row.round row.price
 
--- the first line of the result
+-- The first line of the result.
 unfoldable pub header_line : List ℕ
 header_line = codes "facility,outcome,round,price\n"
 
@@ -42,43 +42,43 @@ header_line = codes "facility,outcome,round,price\n"
 unfoldable pub result_text : Scenario → ClockState → List ClockTest → List ℕ
 result_text sc state undecided = header_line ++ flat_map row_line (result_rows sc state undecided)
 
--- the station is frozen, by one of these tests
+-- Whether the station is frozen by one of these tests.
 abbrev pub frozen_by : List ClockTest → ℕ → Standing → Bool
 frozen_by tests f standing.Active = false
 frozen_by tests f (standing.OnAir round) = false
 frozen_by tests f (standing.Frozen round) = is_listed tests (record { round = round; station = f })
 
--- the same of each of these stations, each beside its standing
+-- The same for each of these stations, paired with its standing.
 abbrev pub each_frozen_by : List ClockTest → List ℕ → List Standing → List Bool
 each_frozen_by tests [] xs = []
 each_frozen_by tests (f ∷ fs) [] = []
 each_frozen_by tests (f ∷ fs) (x ∷ xs) = frozen_by tests f x ∷ each_frozen_by tests fs xs
 
--- what the station is paid by these entries, in cents; 0 where none is its own
+-- What the station is paid by these entries, in cents; 0 if it has no entry.
 abbrev pub price_in : List (ℕ × ℕ) → ℕ → ℕ
 price_in paid f = unwrap_or (price_of f paid) 0
 
--- The line of a station that stands so, and whether it is undecided, and at which price, which a frozen one may be; none while
--- it is active.
+-- The line of a station, by its standing, whether it is undecided, and its price if it is frozen; no text if it is
+-- active.
 abbrev pub standing_line : ℕ → Standing → Bool → ℕ → List ℕ
 standing_line f standing.Active u price = []
 standing_line f (standing.OnAir round) u price = row_line (on_air_row (record { station = f; round = round }))
 standing_line f (standing.Frozen round) u price =
     row_line (record { facility = f; outcome = if u then Undecided else Frozen; round = round; price = price })
 
--- the lines of these stations, each beside its standing and whether it is undecided, and paid by these entries
+-- The lines of these stations, each paired with its standing and whether it is undecided; the entries are the prices.
 abbrev pub standing_lines : List (ℕ × ℕ) → List ℕ → List Standing → List Bool → List ℕ
 standing_lines paid [] xs us = []
 standing_lines paid (f ∷ fs) [] us = []
 standing_lines paid (f ∷ fs) (x ∷ xs) [] = []
 standing_lines paid (f ∷ fs) (x ∷ xs) (u ∷ us) = standing_line f x u (price_in paid f) ++ standing_lines paid fs xs us
 
--- a line of the summary
+-- A line of the summary.
 unfoldable pub count_line : List ℕ → ℕ → List ℕ
 count_line name n = name ++ codes " " ++ decimal n ++ codes "\n"
 
--- The summary: how many stations there are, are on air, are frozen (the undecided ones included) and are undecided, and
--- what the frozen ones are paid together, in cents.
+-- The summary: the numbers of stations, of stations on air, of frozen stations (the undecided ones included) and of
+-- undecided ones, and the total that the frozen stations are paid, in cents.
 unfoldable pub summary_text : Scenario → ClockState → List ClockTest → List ℕ
 summary_text sc state undecided =
     count_line (codes "stations") (length sc.stations)
@@ -87,12 +87,12 @@ summary_text sc state undecided =
     ++ count_line (codes "undecided") (count_by (λ x. is_listed undecided (record { round = x.round; station = x.station })) state.frozen)
     ++ count_line (codes "total") (sum_by (λ x. x.price) state.frozen)
 
--- a writer of rows with the defaults, between two of them
+-- Whether a writer of rows with default settings is between two rows.
 pub record IsBetweenRows (w : Writer (Vec ℕ Global)) : Type 0 where
   pub setup : writer_setup w ≡ default_writer
   pub fields : fields_written w ≡ 0
   pub wrote : has_written w ≡ false
 
--- what a writer over a list of bytes has written
+-- What a writer over a list of bytes has written.
 abbrev pub text_held : Writer (Vec ℕ Global) → List ℕ
 text_held w = (writer_under w).items ++ writer_pending w

@@ -1,4 +1,4 @@
-//! The text of the channels.
+//! Writes the channels of an auction as CSV. The map in the record is all that this needs.
 
 ghost use Rattle.std.specs.Prelude.{◌≡◌, ◌++◌, IfOk, OnOk};
 ghost use Rattle.result_text.specs.ChannelsText.{channel_line, channels_header, channels_text};
@@ -9,7 +9,7 @@ use csv::{Writer, WriterBuilder};
 use itoa::Buffer;
 use std::alloc::{AllocError as NoMemory, Global};
 
-// The row of a station and its channel, by a writer between two rows.
+// Writes the row of a station and its channel. The writer is between two rows.
 fn write_entry(writer: &mut Writer<Vec<u8>>, facility: u32, channel: u8) -> Result<(), NoMemory>
     requires { IsBetweenRows writer.old }
     ensures idle { OnOk result (IsBetweenRows writer.new) }
@@ -27,7 +27,7 @@ fn write_entry(writer: &mut Writer<Vec<u8>>, facility: u32, channel: u8) -> Resu
     Ok(())
 }
 
-// The header, by a writer between two rows.
+// Writes the header. The writer is between two rows.
 fn write_header(writer: &mut Writer<Vec<u8>>) -> Result<(), NoMemory>
     requires { IsBetweenRows writer.old }
     ensures idle { OnOk result (IsBetweenRows writer.new) }
@@ -40,8 +40,8 @@ fn write_header(writer: &mut Writer<Vec<u8>>) -> Result<(), NoMemory>
     Ok(())
 }
 
-/// The channels of an auction's record: a header, and a row for each station on air, ascending, with its facility and its
-/// channel. One pass over the map. The only error is want of memory.
+/// Returns the channels of an auction's record: a header, and a row for each station on air with its facility and its
+/// channel, ascending. Makes one pass over the map. Fails only if memory runs out.
 #[tactic(auto, unfolding(crate::specs::ChannelsText::channels_text))]
 pub fn channels_csv(alloc: Global, rec: &Record) -> Result<Vec<u8>, NoMemory>
     ensures { IfOk result (λ v. v.items ≡ channels_text rec.now.map) }

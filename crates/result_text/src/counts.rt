@@ -1,4 +1,4 @@
-//! The text of the summary.
+//! Writes the summary of an auction: a line for each count.
 
 ghost use Rattle.std.specs.Prelude.{◌≡◌, ◌≤◌, ◌+◌, ◌++◌, IfOk, OnErr, OnOk, count_by, length, vec_capacity, vec_len};
 ghost use Rattle.pack_defs.specs.Scenario.{IsWithinLimits};
@@ -13,8 +13,7 @@ use itoa::Buffer;
 use pack_defs::book::Book;
 use std::alloc::{AllocError as NoMemory, Global};
 
-/// Adds a name and a number, with a space between, on a line of their own. The only error is want of memory, and then the
-/// text stays as it was.
+/// Appends a line of a name, a space and a number. Fails only if memory runs out, and then the text is unchanged.
 pub fn push_count(text: &mut Vec<u8>, name: &str, n: u64) -> Result<(), NoMemory>
     ensures added { OnOk result (text.new.items ≡ text.old.items ++ count_line name.now n) }
     ensures kept { OnErr result (text.new.items ≡ text.old.items) }
@@ -29,7 +28,7 @@ pub fn push_count(text: &mut Vec<u8>, name: &str, n: u64) -> Result<(), NoMemory
     Ok(())
 }
 
-// Adds these bytes to a text that has room for them.
+// Appends these bytes to a text whose capacity suffices.
 fn extend_reserved(text: &mut Vec<u8>, bytes: &[u8])
     requires { vec_len text.old + length bytes.now ≤ vec_capacity text.old }
     ensures items { text.new.items ≡ text.old.items ++ bytes.now }
@@ -41,7 +40,7 @@ fn extend_reserved(text: &mut Vec<u8>, bytes: &[u8])
     };
 }
 
-// How many of the stations are on air.
+// Returns how many of the stations are on air.
 fn on_air_count(standings: &[Standing]) -> usize
     ensures { result ≡ count_by stands_on_air standings.now }
 {
@@ -51,7 +50,7 @@ fn on_air_count(standings: &[Standing]) -> usize
         .count()
 }
 
-// How many of the stations are frozen.
+// Returns how many of the stations are frozen.
 fn frozen_count(standings: &[Standing]) -> usize
     ensures { result ≡ count_by stands_frozen standings.now }
 {
@@ -61,17 +60,17 @@ fn frozen_count(standings: &[Standing]) -> usize
         .count()
 }
 
-// How many of the stations are undecided.
+// Returns how many of the stations are undecided.
 fn undecided_count(undecided: &[bool]) -> usize
     ensures { result ≡ count_by (λ u. u) undecided.now }
 {
     undecided.iter().filter(|undecided| **undecided).count()
 }
 
-/// The summary of a finished auction: how many stations it has, are on air, are frozen (the undecided ones included) and
-/// are undecided, and what the frozen ones are paid together, in cents, each on a line of its own. The book is the one by
-/// which the record is backed. One pass over the steps, each with a search by halves, and three over the stations. The
-/// only error is want of memory.
+/// Returns the summary of a finished auction, whose record is backed by this book. Its lines count the stations,
+/// those on air, those frozen (the undecided ones included) and those undecided. The last line is the total that the
+/// frozen stations are paid, in cents. Makes one pass over the steps, with a binary search for each, and three over
+/// the stations. Fails only if memory runs out.
 pub fn summary(alloc: Global, rec: &Record, book: &Book) -> Result<Vec<u8>, NoMemory>
     requires backed { IsBacked rec.now.scenario book.now rec.now.order rec.now }
     requires done { rec.now.ending ≡ Ending.Done }

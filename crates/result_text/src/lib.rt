@@ -1,7 +1,13 @@
-//! The texts of a finished auction: of its result, its channels and its summary, from its record.
+//! The texts of a finished auction, written from its record: the result, the channels and the summary.
 //!
-//! It may call `auction_core` and what that stands on, and opens no file. Read `rows` first, then `channels` and `counts`; `replay`
-//! finds what became of each station.
+//! The crate uses `auction_core` and the crates below it, and opens no file.
+//!
+//! Modules, in reading order:
+//!
+//! - `rows`: the result, a row for each station.
+//! - `channels`: the channels, a row for each station on air.
+//! - `counts`: the summary, a line for each count.
+//! - `replay`: finds each station's outcome.
 #![tactic(auto)]
 
 pub mod channels;

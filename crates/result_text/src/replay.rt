@@ -1,4 +1,5 @@
-//! What became of each station of a finished auction, from its record.
+//! Replays the steps of a finished auction on a clock, to find the outcome of each station. `rows` and `counts` call
+//! it.
 
 ghost use Rattle.std.specs.Prelude.{◌≡◌, ◌<◌, IfOk};
 ghost use Rattle.pack_defs.specs.Scenario.{IsWithinLimits, facilities};
@@ -13,7 +14,7 @@ use offer_sched::offers::schedule;
 use pack_defs::book::Book;
 use std::alloc::{AllocError as NoMemory, Global};
 
-/// What became of each station, in the scenario's order.
+/// The outcome of each station, in the scenario's order.
 #[derive(Debug, Drop)]
 pub(crate) struct Outcomes {
     pub(crate) clock: Clock,
@@ -28,8 +29,8 @@ fn is_undecided(shown: &Shown) -> bool
     matches!(shown, Shown::Undecided(_))
 }
 
-/// What became of each station of a finished auction: its steps in turn move the clock, and the last step of a station
-/// says whether it is undecided. Only the clauses speak of the book. The only error is want of memory.
+/// Returns the outcome of each station of a finished auction. The steps move the clock in order, and the last step of
+/// a station says whether the station is undecided. The book is for the contract only. Fails only if memory runs out.
 pub(crate) fn final_outcomes(alloc: Global, rec: &Record, book: &Book) -> Result<Outcomes, NoMemory>
     requires backed { IsBacked rec.now.scenario book.now rec.now.order rec.now }
     requires done { rec.now.ending ≡ Ending.Done }

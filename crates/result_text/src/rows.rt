@@ -1,4 +1,4 @@
-//! The text of the result.
+//! Writes the result of an auction as CSV: a row for each station.
 
 ghost use Rattle.std.specs.Prelude.{◌≡◌, ◌++◌, IfOk, IsFalse, OnOk, length, map};
 ghost use Rattle.csv.specs.Writing.{default_writer, needs_quotes};
@@ -15,7 +15,7 @@ use pack_defs::book::Book;
 use pack_defs::station::Station;
 use std::alloc::{AllocError as NoMemory, Global};
 
-// One row of four fields, of which the second needs no quotes, by a writer between two rows.
+// Writes a row of four fields; `word` needs no quotes. The writer is between two rows.
 fn write_row(
     writer: &mut Writer<Vec<u8>>,
     facility: u32,
@@ -44,15 +44,15 @@ fn write_row(
     Ok(())
 }
 
-// What a station is paid, in cents; 0 where it is not frozen.
+// Returns what a station is paid, in cents, or 0 if it is not frozen.
 fn price_in(clock: &Clock, facility: u32) -> u64
     ensures { result ≡ price_in clock.now.paid facility }
 {
     clock.paid(facility).unwrap_or(0)
 }
 
-// The row of a station that stands so, and whether it is undecided, and at which price, in cents, where it is frozen, by a
-// writer between two rows; an active one has none.
+// Writes the row of a station, by its standing, whether it is undecided, and its price in cents if it is frozen. An
+// active station has no row. The writer is between two rows.
 fn write_standing(
     writer: &mut Writer<Vec<u8>>,
     facility: u32,
@@ -76,7 +76,7 @@ fn write_standing(
     }
 }
 
-// The header, by a writer between two rows.
+// Writes the header. The writer is between two rows.
 fn write_header(writer: &mut Writer<Vec<u8>>) -> Result<(), NoMemory>
     requires { IsBetweenRows writer.old }
     ensures idle { OnOk result (IsBetweenRows writer.new) }
@@ -89,7 +89,7 @@ fn write_header(writer: &mut Writer<Vec<u8>>) -> Result<(), NoMemory>
     Ok(())
 }
 
-// A header, and a row for each of these stations, which stand and are paid so by the clock, and are undecided or not.
+// Returns a header, and a row for each of these stations, by the clock and the undecided tests.
 fn standings_csv(
     alloc: Global,
     stations: &[Station],
@@ -120,10 +120,12 @@ fn standings_csv(
     }
 }
 
-/// The result of a finished auction: a header, and a row for each station in ascending order, with its facility, its
-/// outcome (`start`, `exit`, `frozen` or `undecided`), the round in which that came about, and what it is paid, in cents.
-/// The book is the one by which the record is backed. One pass over the steps, each with a search by halves, and one over
-/// the stations. The only error is want of memory.
+/// Returns the result of a finished auction, whose record is backed by this book: a header, and a row for each
+/// station, ascending. A row has the station's facility, its outcome (`start`, `exit`, `frozen` or `undecided`), the
+/// round of the outcome, and the price in cents.
+///
+/// Makes one pass over the steps, with a binary search for each, and one over the stations. Fails only if memory runs
+/// out.
 pub fn result_csv(alloc: Global, rec: &Record, book: &Book) -> Result<Vec<u8>, NoMemory>
     requires backed { IsBacked rec.now.scenario book.now rec.now.order rec.now }
     requires done { rec.now.ending ≡ Ending.Done }

@@ -1,4 +1,4 @@
--- When the literals of a line are bad, read from the front.
+-- For `hints`: when the literals of a line are bad, read from the front.
 use Rattle.std.proofs.Common.{◌≡◌, ℕ, ◌+◌, ◌<◌, Bool, true, false, not, ◌&&◌, ◌||◌, ◌==◌, if◌then◌else◌, nat_lt, List, [], ◌∷◌, ◌++◌, map, length, take, drop, get_or, refl, sym, ap, ◌∙◌, subst, eqb-true, eq-eqb, ⊎_elim, arith, ◌≤◌}
 use Rattle.std.specs.List.{list_any}
 use Rattle.std.proofs.lemmas.Bool.{or_left, or_right, or_from, or_parts, or_cases, false_from_ne_true, lt-ltb, ltb-true}
@@ -8,7 +8,7 @@ use Rattle.rup_check.specs.Follows.{has_repeat, has_bad_lits}
 use Rattle.clause_db.proofs.Literals.{split-at}
 use Rattle.pack_defs.proofs.Words.{eq_swap}
 
--- the variable is 0 or past the last
+-- the variable is 0 or above the last
 abbrev pub is_out : ℕ → Lit → Bool
 is_out vars l = l.var == 0 || nat_lt vars l.var
 
@@ -27,7 +27,7 @@ one_sign true false true = refl
 one_sign true false false = refl
 one_sign false a b = refl
 
--- a variable is used where its literal or the opposite is denied already
+-- a variable is used if its literal or the opposite is already denied
 pub used-known : (lits : List Lit) (l : Lit) → (has_lit (map opposite lits) l || has_lit (map opposite lits) (opposite l)) ≡ is_used lits l.var
 used-known [] l = refl
 used-known (x ∷ xs) l =
@@ -73,7 +73,7 @@ repeat-at (x ∷ xs) zs l e =
     (λ r. or_right (is_used (xs ++ l ∷ zs) x.var) (has_repeat (map (λ (l : Lit). l.var) (xs ++ l ∷ zs))) (repeat-at xs zs l r))
     (or_cases (x.var == l.var) (is_used xs l.var) e)
 
--- a literal out of range, or of a variable used before it, makes the whole bad
+-- a literal out of range, or of a variable used before it, makes the list bad
 pub bad-out : (vars : ℕ) (xs : List Lit) (i : ℕ) (d : Lit) → i < length xs → is_out vars (get_or xs i d) ≡ true → has_bad_lits vars xs ≡ true
 bad-out vars xs i d h e =
     or_left (list_any (is_out vars) xs) (has_repeat (map (λ (l : Lit). l.var) xs))

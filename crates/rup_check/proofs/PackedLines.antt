@@ -1,4 +1,4 @@
--- A line behind the others is read as it was put there, and the others stay.
+-- For `lines`: an appended line is read back, and the others stay.
 use Rattle.std.proofs.Common.{◌≡◌, ℕ, ◌+◌, ◌-◌, ◌*◌, ◌/◌, ◌%◌, ◌==◌, ◌<◌, ◌≤◌, Bool, true, false, List, [], ◌∷◌, ◌++◌, All, map, length, take, drop, get_or, refl, sym, ap, ◌∙◌, arith, append_assoc, append-nil}
 use Rattle.std.specs.List.{slice_range}
 use Rattle.std.proofs.lemmas.List.{take-append-le, drop-append-le, map_push, length-append, length-drop, get_or-map}
@@ -9,7 +9,7 @@ use Rattle.rup_check.specs.declared.lines.Span.{Span}
 use Rattle.rup_check.specs.Packed.{IsWithin, Spells, line_at, line_in, no_line, lit_of_number, lits_spelled, number_of_lit, numbers_of}
 use Rattle.rup_check.proofs.Packing.{spells-alone}
 
--- what stands within the bytes stays where more is put behind them
+-- what is stored within the bytes stays if more bytes are appended
 range-kept : (bytes more : List ℕ) (start end : ℕ) → start ≤ end → end ≤ length bytes → slice_range (bytes ++ more) start end ≡ slice_range bytes start end
 range-kept bytes more start end h k =
     ap (take (end - start)) (drop-append-le start bytes more (omega (arith, h, k)))
@@ -30,7 +30,7 @@ lines-kept bytes more (s ∷ spans) w =
 pub within-more : (n m : ℕ) (spans : List Span) → n ≤ m → All (IsWithin n) spans → All (IsWithin m) spans
 within-more n m spans h w k d there = let before = w k d there in (before.0, before.1, omega (arith, h, before.2))
 
--- a literal is read again
+-- a literal is read back
 lit-back : (l : Lit) → lit_of_number (number_of_lit l) ≡ l
 lit-back l = by-sign l.var l.positive
   where
@@ -76,11 +76,11 @@ range-last bytes a = range-more
         ∙ ap (take (length a)) (drop-append_seam bytes a)
         ∙ all
 
--- two pieces put behind each other
+-- two pieces, one appended after the other
 pub twice : (old middle new a b : List ℕ) → middle ≡ old ++ a → new ≡ middle ++ b → new ≡ old ++ (a ++ b)
 twice old middle new a b m n = n ∙ ap (λ (z : List ℕ). z ++ b) m ∙ append_assoc old a b
 
--- the lines with one more behind them
+-- the lines with one more appended
 pub lines-pushed : (old middle new a b : List ℕ) (spans : List Span) (s : Span) (lits : List Lit) (hints : List ℕ)
     → All (IsWithin (length old)) spans → middle ≡ old ++ a → new ≡ middle ++ b → Spells a (map number_of_lit lits) → Spells b hints
     → s.lits ≡ length old → s.hints ≡ length middle → s.end ≡ length new

@@ -1,4 +1,4 @@
--- Numbers written in bytes are read back from them.
+-- For `digits`: numbers written to bytes are read back.
 use Rattle.std.proofs.Common.{◌≡◌, ℕ, ◌+◌, ◌-◌, ◌*◌, ◌/◌, ◌%◌, ◌^◌, ◌<◌, ◌≤◌, nat_lt, Bool, true, false, if◌then◌else◌, List, [], ◌∷◌, ◌++◌, length, refl, sym, ap, ◌∙◌, subst, arith, append_assoc, append-nil}
 use Rattle.std.proofs.Math.Nat.{mod-eq_of_lt}
 use Rattle.std.proofs.lemmas.Bool.{le-ltb, lt-ltb}
@@ -11,7 +11,7 @@ pub spells-both : (a b xs ys : List ℕ) → Spells a xs → Spells b ys → Spe
 spells-both a b xs ys f g behind =
     ap numbers_of (append_assoc a b behind) ∙ f (b ++ behind) ∙ ap (λ (z : List ℕ). xs ++ z) (g behind) ∙ sym (append_assoc xs ys (numbers_of behind))
 
--- with nothing behind
+-- with no bytes after it
 pub spells-alone : (a xs : List ℕ) → Spells a xs → numbers_of a ≡ xs
 spells-alone a xs f = ap numbers_of (sym (append-nil a)) ∙ f [] ∙ append-nil xs
 
@@ -21,7 +21,7 @@ last-digit d b bs e = ap (λ (t : Bool). if t then part_with d b ∷ numbers_fro
 pub more-digit : (d : Digits) (b : ℕ) (bs : List ℕ) → nat_lt b 128 ≡ false → numbers_from d (b ∷ bs) ≡ numbers_from (digits_with d (b - 128)) bs
 more-digit d b bs e = ap (λ (t : Bool). if t then part_with d b ∷ numbers_from no_digits bs else numbers_from (digits_with d (b - 128)) bs) e
 
--- a number of which some digits are written, and this rest is left
+-- a number that is partly written, with this rest
 pub record Begun (old now : List ℕ) (rest number : ℕ) : Type 0 where
   pub more : List ℕ
   pub digits : Digits
@@ -40,7 +40,7 @@ begun-first old number = record {
   weighs = omega arith;
 }
 
--- the parts of a sum below 2 to the 64 are below it too
+-- the parts of a sum below 2^64 are below it too
 part_is : (part rest weight digit number : ℕ) → part + rest * weight ≡ number → number < 2 ^ 64 → digit ≤ rest → (part + (digit * weight) % 2 ^ 64) % 2 ^ 64 ≡ part + digit * weight
 part_is part rest weight digit number e h d =
     let less : digit * weight ≤ rest * weight = mul-le digit weight rest weight d (omega arith) in
@@ -94,7 +94,7 @@ begun-last old now rest number small few b =
       λ behind. ap numbers_of (append_assoc b.more (rest ∷ []) behind) ∙ b.reads (rest ∷ behind) ∙ last-digit d rest behind (lt-ltb rest 128 few) ∙ ap (λ z. z ∷ numbers_of behind) whole,
     )
 
--- one number more of those that are written
+-- one more number after those that are written
 pub spells-more : (old now new : List ℕ) (more one : List ℕ) (xs : List ℕ) (x : ℕ) → now ≡ old ++ more → new ≡ now ++ one → Spells more xs → Spells one (x ∷ []) → (all : List ℕ) × (new ≡ old ++ all) × Spells all (xs ++ x ∷ [])
 spells-more old now new more one xs x e f s t =
     (more ++ one, f ∙ ap (λ (z : List ℕ). z ++ one) e ∙ append_assoc old more one, spells-both more one xs (x ∷ []) s t)
@@ -102,7 +102,7 @@ spells-more old now new more one xs x e f s t =
 pub spells-none : Spells [] []
 spells-none behind = refl
 
--- each number takes a byte at least
+-- each number takes at least one byte
 pub numbers-few : (d : Digits) (bytes : List ℕ) → length (numbers_from d bytes) ≤ length bytes
 numbers-few d [] = omega arith
 numbers-few d (b ∷ bs) = step (nat_lt b 128) (numbers-few no_digits bs) (numbers-few (digits_with d (b - 128)) bs)

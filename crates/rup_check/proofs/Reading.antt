@@ -1,4 +1,4 @@
--- What is left of a list of hints or lines decides as the whole does.
+-- For the loops: what is left of a list of hints or lines decides as the complete list does.
 use Rattle.std.proofs.Common.{◌≡◌, ℕ, ◌+◌, ◌-◌, ◌<◌, ◌≤◌, Bool, true, false, ◌==◌, if◌then◌else◌, List, [], ◌∷◌, ◌++◌, map, length, take, drop, get_or, Option, Some, None, Result, Ok, Err, refl, sym, ap, ◌∙◌, subst, arith, eqb-true, append_assoc}
 use Rattle.std.proofs.lemmas.Bool.{eq-eqb, false_from_ne_true}
 use Rattle.std.proofs.lemmas.List.{length-drop, length-map, get_or-map, take_more}
@@ -26,7 +26,7 @@ if_false : {A : Type 0} (b : Bool) (x y : A) → b ≡ false → (if b then x el
 if_false true x y e = cc
 if_false false x y e = refl
 
--- none is left behind a place exactly where it is the last
+-- none is left after a place exactly if it is the last
 none-behind : (i n : ℕ) → i < n → (n - (i + 1) == 0) ≡ (i + 1 == n)
 none-behind i n h =
     same-truth (n - (i + 1) == 0) (i + 1 == n)
@@ -74,7 +74,7 @@ answer-fault fault NoMemory e = tt
 pub only-one : (known : List Lit) (l : Lit) (b : Bool) → has_lit known l ≡ b → only_open known (l ∷ []) ≡ (if b then None else Some l)
 only-one known l b e = ap (λ (x : Bool). (if x then None else Some l)) e
 
--- the lines so far and one more
+-- the lines so far, and one more
 pub clauses-more : (clauses : List (List Lit)) (lines : List Line) (line : Line) → clauses_before clauses (lines ++ line ∷ []) ≡ clauses_before clauses lines ++ line.lits ∷ []
 clauses-more clauses lines line = ap (λ (z : List (List Lit)). clauses ++ z) (map-push lines) ∙ sym (append_assoc clauses (map (λ (l : Line). l.lits) lines) (line.lits ∷ []))
   where
@@ -94,7 +94,7 @@ pub no-lines : (vars place : ℕ) (clauses : List (List Lit)) → lines_fault va
 unfolding lines_fault
 no-lines vars place clauses = refl
 
--- a number past the clauses names an earlier line
+-- a number above the clauses' names an earlier line
 pub line-read : (clauses : List (List Lit)) (earlier : List Line) (number count : ℕ) (line : Line) (lits : List Lit) → count ≡ length clauses → count < number → number - count ≤ length earlier → line ≡ get_or earlier (number - count - 1) line → lits ≡ line.lits → clause_at (clauses_before clauses earlier) number ≡ Some lits
 line-read clauses earlier number count line lits e h k r s =
     let f : Line → List Lit = λ (l : Line). l.lits in
@@ -112,7 +112,7 @@ pub good-fault : (vars : ℕ) (clauses : List (List Lit)) (line : Line) → has_
 unfolding line_fault
 good-fault vars clauses line e = if_false (has_bad_lits vars line.lits) (Some BadLits) (hints_fault clauses (map opposite line.lits) 1 line.hints) e
 
--- the answer to the hints is the line's, where its literals are good
+-- the result for the hints is the line's, if its literals are valid
 pub line-answer : (vars vars2 : ℕ) (clauses : List (List Lit)) (line : Line) (lits known : List Lit) (hints : List ℕ) (r : Result (Unit {0}) LineErr) → vars ≡ vars2 → lits ≡ line.lits → known ≡ map opposite lits → hints ≡ line.hints → has_bad_lits vars lits ≡ false → LineAnswer (hints_fault clauses known 1 hints) r → LineAnswer (line_fault vars2 clauses line) r
 line-answer vars vars2 clauses line lits known hints r v l k h good a =
     let fault : hints_fault clauses known 1 hints ≡ line_fault vars2 clauses line =
@@ -123,7 +123,7 @@ line-answer vars vars2 clauses line lits known hints r v l k h good a =
 pub line-bad : (vars vars2 : ℕ) (clauses : List (List Lit)) (line : Line) (lits : List Lit) → vars ≡ vars2 → lits ≡ line.lits → has_bad_lits vars lits ≡ true → line_fault vars2 clauses line ≡ Some BadLits
 line-bad vars vars2 clauses line lits v l bad = bad-fault vars2 clauses line (sym (λ i. has_bad_lits (v i) (l i)) ∙ bad)
 
--- one line more of a log that follows so far; and the first that doesn't
+-- one more line of a log that follows so far, and the first that does not
 pub log-passed : (vars : ℕ) (clauses : List (List Lit)) (lines : List Line) (i : ℕ) (line : Line) (whole : Option LogErr) → i < length lines → line ≡ get_or lines i line → line_fault vars (clauses_before clauses (take i lines)) line ≡ None → lines_fault vars (clauses_before clauses (take i lines)) (i + 1) (drop i lines) ≡ whole → lines_fault vars (clauses_before clauses (take (i + 1) lines)) (i + 1 + 1) (drop (i + 1) lines) ≡ whole
 log-passed vars clauses lines i line whole h r e w =
     let split : drop i lines ≡ line ∷ drop (i + 1) lines = drop-from lines i line h ∙ ap (λ (z : Line). z ∷ drop (i + 1) lines) (sym r) in
@@ -139,7 +139,7 @@ log-stopped vars clauses lines i line why whole h r e w =
     let split : drop i lines ≡ line ∷ drop (i + 1) lines = drop-from lines i line h ∙ ap (λ (z : Line). z ∷ drop (i + 1) lines) (sym r) in
     sym w ∙ ap (lines_fault vars (clauses_before clauses (take i lines)) (i + 1)) split ∙ line-stopped vars (i + 1) (clauses_before clauses (take i lines)) line (drop (i + 1) lines) why e
 
--- an answer that is a fault and not want of memory is the first fault
+-- a fault other than running out of memory is the first fault
 pub fault-answered : (fault : Option LineErr) (why : LineErr) → LineAnswer fault (Err why) → (why ≡ NoMemory → ⊥) → fault ≡ Some why
 fault-answered fault BadLits a n = a
 fault-answered fault (NoSuchClause hint) a n = a
@@ -147,7 +147,7 @@ fault-answered fault (NotUnit hint) a n = a
 fault-answered fault NotFalsified a n = a
 fault-answered fault NoMemory a n = absurd (n refl)
 
--- what a cursor takes from the items from a place on
+-- what a cursor takes from the items, from a place on
 pub taken : {X : Type 0} (xs left : List X) (i : ℕ) (x d : X) → drop i xs ≡ x ∷ left → (i < length xs) × (get_or xs i d ≡ x) × (left ≡ drop (i + 1) xs)
 taken {X = X} xs left i x d e =
     let there : i < length xs = omega (arith, ap length e, length-drop i xs) in

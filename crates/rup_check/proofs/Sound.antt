@@ -1,4 +1,5 @@
--- A line that follows is true in every model of the clauses before it; a log that follows and ends empty has no model.
+-- For `laws`: a line that follows is true in every model of the clauses before it, and a log that ends with the empty line has
+-- none.
 use Rattle.std.proofs.Common.{◌≡◌, ℕ, ◌+◌, ◌-◌, Bool, true, false, not, cond, ◌&&◌, ◌||◌, ◌==◌, if◌then◌else◌, List, [], ◌∷◌, ◌++◌, map, Option, Some, None, Result, Ok, Err, refl, ap, ◌∙◌, subst, ⊎_elim, eqb-true}
 use Rattle.std.specs.List.{list_all}
 use Rattle.std.proofs.lemmas.Bool.{and_parts, and_from, or_cases, or_left, or_right, or_parts, or_from, cases_Bool}
@@ -20,7 +21,7 @@ at_head : (model : ℕ → Bool) (d c : List Lit) (o : Option (List Lit)) (b : B
 at_head model d c o true h k e = let same : d ≡ c = cc in subst (λ x. clause_holds model x ≡ true) same h
 at_head model d c o false h k e = k e
 
--- a clause that the list has is true in its models
+-- a clause of the list is true in its models
 pub clause_at-holds : (model : ℕ → Bool) (clauses : List (List Lit)) (n : ℕ) (c : List Lit) → Satisfies model clauses → clause_at clauses n ≡ Some c → clause_holds model c ≡ true
 clause_at-holds model [] n c s e = cc
 clause_at-holds model (d ∷ cs) n c s e =
@@ -62,7 +63,7 @@ kept model l ls rest true f h k =
 kept model l ls rest false f h k =
     ⊎_elim (λ p. or_left (lit_holds model l) (clause_holds model rest) p) (λ q. or_right (lit_holds model l) (clause_holds model rest) (k q)) (or_cases (lit_holds model l) (clause_holds model ls) h)
 
--- a true clause is true by a literal that isn't known to be false
+-- a true clause has a true literal that is not known to be false
 not_false-holds : (model : ℕ → Bool) (known clause : List Lit) → Holds model known → clause_holds model clause ≡ true → clause_holds model (not_false known clause) ≡ true
 not_false-holds model known [] k h = h
 not_false-holds model known (l ∷ ls) k h =
@@ -119,7 +120,7 @@ fault_or-sound : (r : Result (List Lit) LineErr) (rest : List Lit → Option Lin
 fault_or-sound (Err why) rest f e = let no : Some why ≡ None = e in absurd_some why no
 fault_or-sound (Ok more) rest f e = f more refl e
 
--- no model makes the clauses and the known literals true, where the hints have no fault
+-- no model makes the clauses and the known literals true if the hints have no fault
 pub hints-sound : (model : ℕ → Bool) (clauses : List (List Lit)) (known : List Lit) (place : ℕ) (hints : List ℕ) → Satisfies model clauses → Holds model known → hints_fault clauses known place hints ≡ None → ⊥
 hints-sound model clauses known place [] s k e = cc
 hints-sound model clauses known place (h ∷ []) s k e =
@@ -166,7 +167,7 @@ line_or-parts : (place : ℕ) (o : Option LineErr) (rest : Option LogErr) → li
 line_or-parts place (Some why) rest e = cc
 line_or-parts place None rest e = (refl, e)
 
--- what stands after a line of a log that has no fault
+-- what is left after a line of a log without fault
 pub lines-next : (vars : ℕ) (clauses : List (List Lit)) (place : ℕ) (line : Line) (lines : List Line) → lines_fault vars clauses place (line ∷ lines) ≡ None → (line_fault vars clauses line ≡ None) × (lines_fault vars (clauses ++ line.lits ∷ []) (place + 1) lines ≡ None)
 unfolding lines_fault
 lines-next vars clauses place line lines e =

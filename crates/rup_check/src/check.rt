@@ -1,4 +1,4 @@
-//! The check of a proof log: whether each of its lines follows from what stands before it.
+//! The check of a proof log. Logs come from solvers and transcripts; `cert_types` calls this check for every answer with a log.
 
 ghost use Rattle.std.specs.Prelude.{◌≡◌, ◌<◌, [], length, take};
 ghost use Rattle.rup_check.specs.Answers.{LineAnswer, LogAnswer};
@@ -14,12 +14,11 @@ use crate::lines::Lines;
 use clause_db::list::ClauseList;
 use std::alloc::Global;
 
-/// Whether a line follows from the clauses, by its hints. Ok exactly where it does; otherwise the line's first fault, its
-/// literals before its hints, and of the hints the first at fault.
+/// Checks whether a line follows from the clauses, by its hints.
 ///
 /// # Errors
 ///
-/// The line's fault, as `LineErr` says, or want of memory.
+/// Returns the line's first fault, of its literals and then of its hints in order, or `NoMemory`.
 pub fn check_line(alloc: Global, clauses: &ClauseList, line: &Line) -> Result<(), LineErr>
     ensures { LineAnswer (line_fault clauses.now.vars clauses.now.list line.now) result }
 {
@@ -32,14 +31,15 @@ pub fn check_line(alloc: Global, clauses: &ClauseList, line: &Line) -> Result<()
     check_hints(&mut known, clauses, &packed, 0, packed.hints(0))
 }
 
-/// Whether each line of a log follows from the clauses and the lines before it. Ok exactly where each does; otherwise the
-/// first line that doesn't, with its fault. The cost is that of a mark for each literal of the clauses' variables, made
-/// once, and then of the lines' literals and hints and of the literals of each clause or line that a hint names. A literal
-/// of a variable above those costs a look through all that is known, too.
+/// Checks whether each line of a log follows from the clauses and the lines before it.
+///
+/// Costs a mark for each literal of the clauses' variables, made once. After that, the cost is that of the lines' literals and
+/// hints, and of the literals of each clause or line that a hint names. For a literal of a greater variable, all known literals are
+/// searched.
 ///
 /// # Errors
 ///
-/// The first line at fault, or want of memory.
+/// Returns the first line that does not follow, with its fault, or `NoMemory`.
 pub fn check_log(alloc: Global, clauses: &ClauseList, log: &Log) -> Result<(), LogErr>
     ensures { LogAnswer (log_fault clauses.now.vars clauses.now.list log.now.lines) result }
 {
@@ -60,7 +60,7 @@ pub fn check_log(alloc: Global, clauses: &ClauseList, log: &Log) -> Result<(), L
     Ok(())
 }
 
-// Whether the line at a place from 0 follows from the clauses and the lines before it, where nothing is known.
+// Checks whether the line at a place, from 0, follows from the clauses and the lines before it. Nothing may be known before.
 fn check_at(
     known: &mut Known,
     clauses: &ClauseList,

@@ -1,4 +1,4 @@
-//! What is left of a line's literals or hints, taken one after the other.
+//! Cursors over the literals or the hints of a line. They decode the packed bytes one item at a time and take no memory.
 
 ghost use Rattle.std.specs.Prelude.{◌≡◌, ◌≤◌, ◌^◌, ◌<◌, ◌++◌, ◌∷◌, [], length, MatchOption, OnOk};
 ghost use Rattle.rup_check.specs.Packed.{lit_of_number, number_of_lit};
@@ -8,7 +8,7 @@ use clause_db::lit::Lit;
 use std::alloc::AllocError as NoMemory;
 use std::marker::Model;
 
-/// The hints that are left of a line.
+/// The remaining hints of a line.
 #[derive(Debug, Drop)]
 pub struct Hints<'a> {
     pub(crate) packed: &'a [u8],
@@ -24,7 +24,7 @@ impl<'a> Model for Hints<'a> {
 }
 
 impl<'a> Hints<'a> {
-    /// The next hint, if one is left.
+    /// Returns the next hint, if one is left.
     pub fn next(&mut self) -> Option<u64>
         ensures next { MatchOption result ((self.old ≡ []) × (self.new ≡ [])) (λ hint. self.old ≡ hint ∷ self.new) }
         ensures few { length self.old < 2 ^ 63 }
@@ -35,10 +35,10 @@ impl<'a> Hints<'a> {
     }
 }
 
-/// The literals that are left of a clause or a line.
+/// The remaining literals of a clause or a line.
 #[derive(Debug, Drop)]
 pub struct Literals<'a> {
-    // Those of a clause, and behind them those of a line: one or the other.
+    // The literals of a clause, and then those of a line. One of the two is empty.
     pub(crate) plain: &'a [Lit],
     pub(crate) packed: &'a [u8],
 }
@@ -54,7 +54,7 @@ impl<'a> Model for Literals<'a> {
 }
 
 impl<'a> Literals<'a> {
-    /// The literals of a clause.
+    /// Returns the literals of a clause.
     pub(crate) fn of_clause(clause: &'a [Lit]) -> Literals<'a>
         ensures { result ≡ clause.now }
     {
@@ -64,7 +64,7 @@ impl<'a> Literals<'a> {
         }
     }
 
-    /// The next literal, if one is left.
+    /// Returns the next literal, if one is left.
     pub fn next(&mut self) -> Option<Lit>
         ensures { MatchOption result ((self.old ≡ []) × (self.new ≡ [])) (λ lit. self.old ≡ lit ∷ self.new) }
     {
@@ -77,7 +77,7 @@ impl<'a> Literals<'a> {
         Some(lit_of(number))
     }
 
-    /// Puts the literals that are left behind these. The only error is want of memory.
+    /// Appends the remaining literals to these. Fails only if memory runs out.
     pub fn read_into(self, lits: &mut Vec<Lit>) -> Result<(), NoMemory>
         ensures { OnOk result (lits.new.items ≡ lits.old.items ++ self.entry) }
     {
@@ -89,7 +89,7 @@ impl<'a> Literals<'a> {
     }
 }
 
-// The literal that a number stands for.
+// Returns the literal that a number encodes.
 fn lit_of(number: u64) -> Lit
     ensures { result ≡ lit_of_number number }
 {
@@ -99,7 +99,7 @@ fn lit_of(number: u64) -> Lit
     }
 }
 
-/// The number that stands for a literal, if there is one within 64 bits.
+/// Returns the number that encodes a literal, if it fits into 64 bits.
 pub(crate) fn number_of(lit: Lit) -> Option<u64>
     ensures { MatchOption result (2 ^ 63 ≤ lit.var) (λ n. n ≡ number_of_lit lit) }
 {

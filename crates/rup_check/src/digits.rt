@@ -1,11 +1,11 @@
-//! Numbers in bytes: seven bits a byte, the least first, and 128 more on each byte but a number's last (LEB128).
+//! Numbers in bytes: seven bits a byte, the least first, and 128 added to each byte except a number's last (LEB128).
 
 ghost use Rattle.std.specs.Prelude.{◌≡◌, ◌++◌, ◌∷◌, [], List, ℕ, MatchOption, OnOk};
 ghost use Rattle.rup_check.specs.Packed.{Spells, TakesByte, no_digits, numbers_of, part_with};
 
 use std::alloc::AllocError as NoMemory;
 
-/// What is read of a number: the part that its digits so far make, and what the next one counts.
+/// A partly read number: the value of its digits so far, and the weight of the next digit.
 #[derive(Clone, Copy, Debug, PartialEq, Eq)]
 pub(crate) struct Digits {
     pub(crate) part: u64,
@@ -13,14 +13,14 @@ pub(crate) struct Digits {
 }
 
 impl Digits {
-    // Nothing is read.
+    // Returns the state in which nothing is read.
     fn none() -> Digits
         ensures { result ≡ no_digits }
     {
         Digits { part: 0, weight: 1 }
     }
 
-    // Reads a byte: the number, where this is its last.
+    // Reads a byte. Returns the number if this was its last byte.
     fn take(&mut self, byte: u8) -> Option<u64>
         ensures { TakesByte self.old self.new byte result }
     {
@@ -33,7 +33,7 @@ impl Digits {
         None
     }
 
-    // The part with a digit more.
+    // Returns the value with one more digit.
     fn part_with(&self, digit: u64) -> u64
         ensures { result ≡ part_with self.now digit }
     {
@@ -41,7 +41,7 @@ impl Digits {
     }
 }
 
-/// The first number of the bytes, and the bytes behind it.
+/// Returns the first number of the bytes, and the bytes after it.
 pub(crate) fn first_number(bytes: &[u8]) -> Option<(u64, &[u8])>
     ensures { MatchOption result (numbers_of bytes.now ≡ []) (λ found. numbers_of bytes.now ≡ found.0 ∷ numbers_of found.1.now) }
 {
@@ -54,7 +54,7 @@ pub(crate) fn first_number(bytes: &[u8]) -> Option<(u64, &[u8])>
     None
 }
 
-/// Writes a number behind the bytes.
+/// Appends a number to the bytes. Fails only if memory runs out.
 pub(crate) fn push_number(bytes: &mut Vec<u8>, number: u64) -> Result<(), NoMemory>
     ensures { (more : List ℕ) × (bytes.new.items ≡ bytes.old.items ++ more)
         × OnOk result (Spells more (number ∷ [])) }

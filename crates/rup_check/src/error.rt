@@ -1,4 +1,4 @@
-//! Why a line of a proof log does not follow.
+//! Why a line or a log is rejected.
 
 ghost use Rattle.std.specs.Prelude.{◌≡◌};
 ghost use Rattle.rup_check.specs.declared.error.LineErr.TheVariants as why;
@@ -10,13 +10,14 @@ use thiserror::Error;
 /// Why a line does not follow. A hint is named by its place in the line, from 1.
 #[derive(Clone, Copy, Debug, PartialEq, Eq, Error)]
 pub enum LineErr {
-    /// A variable of the line is 0 or above the number of variables, or a literal stands twice or with its opposite.
+    /// A variable of the line is 0 or above the number of variables, or occurs in two literals of the line.
     #[error("bad literals")]
     BadLits,
     /// The hint names no clause and no earlier line.
     #[error("hint {hint} names no clause")]
     NoSuchClause { hint: u64 },
-    /// The hint's clause has another than one literal that is not false, or that one is true.
+    /// The hint's clause does not force a literal. Either none or several of its literals are not false, or the only one is true
+    /// already.
     #[error("hint {hint} is not unit")]
     NotUnit { hint: u64 },
     /// The last hint's clause has a literal that is not false, or there is no hint.
@@ -27,7 +28,7 @@ pub enum LineErr {
     NoMemory,
 }
 
-/// Why a log does not follow: its first line at fault, by its place from 1.
+/// Why a log is rejected: its first line that does not follow, by its place from 1.
 #[derive(Clone, Copy, Debug, PartialEq, Eq, Error)]
 pub enum LogErr {
     /// The line does not follow.

@@ -7,8 +7,8 @@ use crate::lines::Lines;
 use clause_db::lit::Lit;
 use pack_defs::items::Items;
 
-/// A line of a log: a clause, and the numbers of the clauses and earlier lines that show it, in the order of their use.
-/// Numbers go on from the formula's: after `m` clauses the log's first line is `m + 1`.
+/// A line of a log: a clause, and the numbers of the clauses and earlier lines that derive it, in the order of their use. The
+/// numbers of lines continue the formula's: after `m` clauses the first line has the number `m + 1`.
 #[derive(Debug, Drop)]
 pub struct Line {
     pub lits: Items<Lit>,
@@ -22,7 +22,7 @@ pub struct Log {
 }
 
 impl Log {
-    /// Whether the last line is empty and no other: so ends a refutation.
+    /// Checks whether the last line is empty and no other is, as in a refutation.
     pub fn ends_empty(&self) -> bool
         ensures { result ≡ ends_empty self.now.lines }
     {

@@ -1,4 +1,4 @@
-//! The lines of a log, packed in bytes.
+//! The lines of a log, packed in bytes. Logs stay in memory, so their size matters.
 
 ghost use Rattle.std.specs.Prelude.{◌≡◌, ◌==◌, ◌-◌, ◌<◌, ◌^◌, ◌++◌, ◌∷◌, [], All, IfOk, List, ℕ, OnErr, OnOk, length, map, take};
 ghost use Rattle.clause_db.specs.Clause.{is_empty_clause};
@@ -10,7 +10,7 @@ use clause_db::lit::Lit;
 use std::alloc::{AllocError as NoMemory, Global};
 use std::marker::Model;
 
-/// Where a line stands among the bytes: where its literals begin, where its hints begin, and where they end.
+/// The bytes of a line: where its literals begin, where its hints begin, and where they end.
 #[derive(Clone, Copy, Debug)]
 pub(crate) struct Span {
     pub(crate) lits: usize,
@@ -18,7 +18,7 @@ pub(crate) struct Span {
     pub(crate) end: usize,
 }
 
-/// Lines, which contracts see as a plain list. A number below 2 to the 21 takes three bytes at most, and one of 32 bits five.
+/// Lines, which contracts see as a plain list. A number below 2^21 takes at most three bytes, and one of 32 bits at most five.
 #[derive(Debug, Drop)]
 pub struct Lines {
     bytes: Vec<u8>,
@@ -38,7 +38,7 @@ impl Model for Lines {
 }
 
 impl Lines {
-    /// No lines.
+    /// Returns no lines.
     pub fn new(alloc: Global) -> Lines
         ensures { result ≡ [] }
     {
@@ -48,28 +48,28 @@ impl Lines {
         }
     }
 
-    /// How many lines there are.
+    /// Returns the number of lines.
     pub fn len(&self) -> usize
         ensures { result ≡ length self.now }
     {
         self.spans.len()
     }
 
-    /// Does nothing, and answers nothing: it says of each list of lines that it stands in memory, which holds fewer than 2^62.
+    /// Proves that every list of lines has fewer than 2^62 lines, since it is in memory. Does nothing else.
     pub fn keeps_to_memory(&self)
         ensures { length self.now < 2 ^ 62 }
     {
         let _spans = self.spans.as_slice();
     }
 
-    /// Whether there is no line.
+    /// Checks whether there is no line.
     pub fn is_empty(&self) -> bool
         ensures { result ≡ (length self.now == 0) }
     {
         self.spans.is_empty()
     }
 
-    /// The literals of the line at a place from 0.
+    /// Returns a cursor over the literals of the line at a place, from 0.
     pub fn lits(&self, place: usize) -> Literals<'_>
         requires { place < length self.now }
         ensures { result ≡ (line_at self.now place).lits }
@@ -85,7 +85,7 @@ impl Lines {
         }
     }
 
-    /// The hints of the line at a place from 0.
+    /// Returns a cursor over the hints of the line at a place, from 0.
     pub fn hints(&self, place: usize) -> Hints<'_>
         requires { place < length self.now }
         ensures { result ≡ (line_at self.now place).hints }
@@ -100,7 +100,7 @@ impl Lines {
         }
     }
 
-    /// Whether the line at a place from 0 has no literal.
+    /// Checks whether the line at a place, from 0, has no literal.
     pub fn is_empty_at(&self, place: usize) -> bool
         requires { place < length self.now }
         ensures { result ≡ is_empty_clause (line_at self.now place).lits }
@@ -108,8 +108,8 @@ impl Lines {
         self.lits(place).next().is_none()
     }
 
-    /// Puts a line behind the others. Where there is no memory for it, all stays as it was; and there is none for a variable
-    /// from 2 to the 63 on, since no formula has so many.
+    /// Appends a line. If memory runs out, the lines stay as they were. A variable of 2^63 or more, which no formula has, counts as
+    /// too large for memory.
     pub fn push(&mut self, lits: &[Lit], hints: &[u64]) -> Result<(), NoMemory>
         ensures pushed { OnOk result (self.new ≡ self.old ++ record { lits = lits.now; hints = hints.now } ∷ []) }
         ensures kept { OnErr result (self.new ≡ self.old) }
@@ -122,15 +122,14 @@ impl Lines {
         Ok(())
     }
 
-    /// Takes the last line away, if there is one.
+    /// Removes the last line, if there is one.
     pub fn pop(&mut self)
         ensures { self.new ≡ take (length self.old - 1) self.old }
     {
         let _ = self.spans.pop();
     }
 
-    /// The same lines once more, with no room to spare: their bytes are copied, and none is read. The only error is want of
-    /// memory.
+    /// Returns a copy of the lines without spare capacity. The bytes are copied without decoding. Fails only if memory runs out.
     pub fn copied(&self, alloc: Global) -> Result<Lines, NoMemory>
         ensures { IfOk result (λ copy. copy ≡ self.now) }
     {
@@ -140,7 +139,7 @@ impl Lines {
         })
     }
 
-    /// The same lines, with no room to spare.
+    /// Returns the lines without spare capacity.
     pub fn fitted(self) -> Lines
         ensures { result ≡ self }
     {
@@ -154,7 +153,7 @@ impl Lines {
     }
 }
 
-// Writes a line behind the others. An error may leave some of its bytes behind theirs.
+// Appends a line. After an error some of its bytes may be left at the end.
 fn push_line(
     bytes: &mut Vec<u8>,
     spans: &mut Vec<Span>,
@@ -179,7 +178,7 @@ fn push_line(
     Ok(())
 }
 
-// Writes literals behind the bytes.
+// Appends literals to the bytes.
 fn push_lits(bytes: &mut Vec<u8>, lits: &[Lit]) -> Result<(), NoMemory>
     ensures { (more : List ℕ) × (bytes.new.items ≡ bytes.old.items ++ more)
         × OnOk result (Spells more (map number_of_lit lits.now)) }
@@ -193,7 +192,7 @@ fn push_lits(bytes: &mut Vec<u8>, lits: &[Lit]) -> Result<(), NoMemory>
     Ok(())
 }
 
-// Writes hints behind the bytes.
+// Appends hints to the bytes.
 fn push_hints(bytes: &mut Vec<u8>, hints: &[u64]) -> Result<(), NoMemory>
     ensures { (more : List ℕ) × (bytes.new.items ≡ bytes.old.items ++ more)
         × OnOk result (Spells more hints.now) }

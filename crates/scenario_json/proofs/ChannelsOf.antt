@@ -1,4 +1,4 @@
--- The channels of the domains of a file are from 14 to 51, and so are those of a book that is made of them.
+-- For `laws`: the channels of a file's domains are from 14 to 51, and so are those of a book that is made of them.
 use Rattle.std.proofs.Common.{◌≡◌, ◌<◌, ◌≤◌, ◌∷◌, [], ℕ, List, Bool, Option, Some, None, Result, Ok, Err, true, false, codes, cond, eqb, length, map, nat_le, nat_lt, All, Contains, refl, arith, subst}
 use Rattle.std.specs.List.{list_all}
 use Rattle.std.specs.Option.{is_some, ok_or}
@@ -21,7 +21,7 @@ use Rattle.constraint_files.specs.declared.error.RowWhy.TheVariants.{BadKey, Bad
 use Rattle.constraint_files.proofs.OrderLemmas.{lines-keep}
 use Rattle.scenario_json.specs.Joined.{book_unless, first_missing, joined}
 
--- each channel of the domain is one that a domain may keep
+-- each channel of the domain is one that a domain may have
 abbrev IsKept : Domain → Type 0
 IsKept d = (c : ℕ) → is_in d.channels c ≡ true → (14 ≤ c) × (c ≤ 51)
 
@@ -99,7 +99,7 @@ in-domains (d ∷ ds) s c all h = go (eqb d.station s) (in-domains ds s c (All-t
     go true later k = All-head IsKept d ds all c k
     go false later k = later k
 
--- what is cut was kept
+-- what is cut was in the domain
 cut-kept : (top : ℕ) (domains : List Domain) (ids : List ℕ) → All IsKept domains → All IsKept (map (cut_domain top domains) ids)
 cut-kept top domains [] all = All-nil IsKept
 cut-kept top domains (x ∷ xs) all = All-cons IsKept (cut_domain top domains x) (map (cut_domain top domains) xs) own (cut-kept top domains xs all)

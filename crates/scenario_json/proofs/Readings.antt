@@ -1,4 +1,4 @@
--- What some bytes read as, and a list read item by item.
+-- For the readers: what some bytes are read as, and a list read item by item.
 use Rattle.std.proofs.Common.{◌≡◌, ℕ, List, [], ◌∷◌, ◌++◌, map, Some, None, inl, inr, refl, ap}
 use Rattle.std.specs.Prelude.{Result, Ok, Err}
 use Rattle.std.specs.Str.{IsUtf8, is_utf8}
@@ -23,7 +23,7 @@ listed-view (v ∷ vs) = ap (λ ds. view v ∷ ds) (listed-view vs)
 pub array-is : (name : Name) (d : Data) (vs : List Value) → Some (items_view vs) ≡ as_array d → Ok (map view vs) ≡ array_in name d
 array-is name d vs is = rw (← is, listed-view vs) refl
 
--- these, and then what the rest reads as
+-- these, and then what the rest is read as
 abbrev pub after : {B : Type 0} → List B → Result (List B) ScenarioErr → Result (List B) ScenarioErr
 after done rest = rest >>= (λ ys. Ok (done ++ ys))
 

@@ -1,4 +1,4 @@
--- The stations that start on air, and the scenario of no others.
+-- For `start_only`: the stations that start on air, and their scenario.
 use Rattle.std.proofs.Common.{◌≡◌, ◌∙◌, ℕ, ◌≤◌, ◌*◌, Bool, true, not, cond, ltb, List, [], ◌∷◌, length, filter, find, Contains, Option, None, Ok, inl, inr, refl, sym, ap, subst, arith}
 use Rattle.std.specs.Option.{is_some, option_map_or}
 use Rattle.std.proofs.lemmas.Bool.{cases_Bool}
@@ -26,9 +26,9 @@ use Rattle.scenario_json.proofs.StationsAscend.{ids, increasing-from_ascending}
 use Rattle.scenario_json.specs.Joined.{book_unless, first_missing, joined}
 use Rattle.scenario_json.specs.StartOnly.{declines_opening, start_only}
 
--- ---- a station by itself
+-- ---- one station
 
--- a listed station declines the opening offer as it does by itself
+-- a listed station declines the opening offer by its own members
 pub declines-own : (sc : Scenario) (x : Station) → StationsAscend sc → Contains sc.stations x → declines sc x.id 0 ≡ declines_opening sc x
 declines-own sc x ascend h =
     ap (λ b. option_map_or (λ lines. not (stays lines 0 x.id)) sc.owners b)
@@ -36,12 +36,12 @@ declines-own sc x ascend h =
     ∙ ap (λ p. option_map_or (λ v. ltb p v) x.value true)
     (ap (λ c. c * volume_of sc x.id) (first_price sc.opening (falls sc)) ∙ ap (λ n. sc.opening * n) (volume_own sc x ascend h)))
 
--- so the listed stations that start are told one by one
+-- hence the listed stations that start are found one by one
 pub starting-own : (sc : Scenario) → StationsAscend sc → filter (declines_opening sc) sc.stations ≡ filter (λ x. declines sc x.id 0) sc.stations
 starting-own sc ascend =
     filter_within (declines_opening sc) (λ x. declines sc x.id 0) sc.stations (λ x h. sym (declines-own sc x ascend h))
 
--- ---- its stations
+-- ---- the stations
 
 ids-filter : (p : ℕ → Bool) (xs : List Station) → ids (filter (λ x. p x.id) xs) ≡ filter p (ids xs)
 ids-filter p [] = refl
@@ -59,7 +59,7 @@ only-ascends sc top ascend =
     increasing-from_ascending (facilities (start_only sc top))
     (subst (λ xs. is_ascending xs ≡ true) (sym (only-facilities sc top)) (ascending-filter (λ s. declines sc s 0) (facilities sc) (ascending-from (facilities sc) ascend)))
 
--- each of them declines the opening offer here as it did there
+-- each of them declines the opening offer in the new scenario as in the old one
 declines-still : (sc : Scenario) (top : ℕ) (x : Station) → StationsAscend sc → Contains (start_only sc top).stations x → declines (start_only sc top) x.id 0 ≡ true
 declines-still sc top x ascend h =
     let there = Contains-from_filter (λ (y : Station). declines sc y.id 0) sc.stations x h in
@@ -101,9 +101,9 @@ only-limits sc top limits least most =
       prover = limits.prover;
     }
 
--- ---- its book
+-- ---- the book
 
--- what is not found is not found among fewer
+-- what a search does not find is not found among fewer
 none-fewer : (p q : ℕ → Bool) (xs : List ℕ) → find p xs ≡ None → find p (filter q xs) ≡ None
 none-fewer p q [] e = refl
 none-fewer p q (x ∷ xs) e =
@@ -124,9 +124,9 @@ only-joined sc top domains pairs none =
     ap (λ ss. book_unless (first_missing ss domains) (cut_book top ss domains pairs)) (only-facilities sc top)
     ∙ ap (λ o. book_unless o (cut_book top (start_set sc) domains pairs)) (none-fewer (λ s. not (is_some (channels_of domains s))) (λ s. declines sc s 0) (facilities sc) none)
 
--- ---- the scenario that a call makes
+-- ---- the scenario that the call returns
 
--- a scenario of these, which falls by these decrements
+-- a scenario of these parts, which falls by these decrements
 abbrev pub made_of : ℕ → ℕ → List ℕ → List Station → List Worker → Option (List OwnerLine) → Scenario
 made_of top opening decrements stations workers owners =
     record { version = 1; top = top; opening = opening; fall = Listed decrements; stations = stations; workers = workers; owners = owners }

@@ -1,4 +1,4 @@
--- Stations that ascend by id stay so with one more in its place.
+-- Stations that ascend by id still do with one more in its place.
 use Rattle.std.proofs.Common.{◌≡◌, ℕ, suc, zero, ◌<◌, ◌≤◌, Bool, true, false, cond, ◌==◌, nat_lt, List, [], ◌∷◌, length, get_or, map, All, inl, inr, refl, ap, add-one, arith}
 use Rattle.std.specs.List.Sorted.{IsStrictlyIncreasing}
 use Rattle.std.proofs.lemmas.Bool.{and_from, and_parts, cases_Bool, eqb-false, ltb-false, ltb-true, lt-ltb, or_parts}
@@ -27,7 +27,7 @@ All-placed P x (y ∷ ys) one all =
       | inr f ↦ rw f (All-cons P y (placed x ys) (All-head P y ys all) (All-placed P x ys one (All-tail P y ys all)))
     ]
 
--- the first of the stations stays below one that is placed behind it
+-- the first station stays below one that is placed after it
 before_placed : (y x : Station) (ys : List Station) → y.id < x.id → is_ascending (y.id ∷ ids ys) ≡ true → is_ascending (ids (placed x ys)) ≡ true → is_ascending (y.id ∷ ids (placed x ys)) ≡ true
 before_placed y x [] less up rest = and_from (nat_lt y.id x.id) true (lt-ltb y.id x.id less) refl
 before_placed y x (z ∷ zs) less up rest =

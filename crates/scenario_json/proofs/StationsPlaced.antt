@@ -1,4 +1,4 @@
--- A tree of stations by id beside the list of the stations, each in its place.
+-- For `roster`: a tree of stations by id, and the list of its stations.
 use Rattle.std.proofs.Common.{◌≡◌, ℕ, Bool, true, false, cond, ◌||◌, nat_lt, ◌==◌, List, [], ◌∷◌, map, Option, Some, nat_cmp, refl, sym, ap, ◌∙◌, eq-eqb, inl, inr, arith}
 use Rattle.std.specs.BTreeMap.{insert_entry, is_at}
 use Rattle.std.specs.Map.{lookup, values_of}
@@ -8,7 +8,7 @@ use Rattle.std.proofs.lemmas.Bool.{cases_Bool, cases_order, eqb-false, le-ltb, l
 use Rattle.pack_defs.specs.declared.station.Station.{Station}
 use Rattle.scenario_json.specs.ScenarioOf.{has_id, placed}
 
--- a station with its id before it
+-- a station with its id
 abbrev pub keyed : Station → ℕ × Station
 keyed x = (x.id, x)
 
@@ -43,7 +43,7 @@ placed-keyed x (y ∷ ys) apart =
       | inr f ↦ rw (f, ne_eqb x.id y.id (λ e. eqb-false y.id x.id parts.0 (sym e))) (ap (λ es. keyed y ∷ es) (placed-keyed x ys parts.1))
     ]
 
--- what stays a tree of stations by id
+-- a tree of stations by id stays one
 pub placed_in : (x : Station) (es : List (ℕ × Station)) (xs : List Station) (fs : List (ℕ × Station))
     → es ≡ map keyed (values_of es) → values_of es ≡ xs → has_id xs x.id ≡ false → fs ≡ insert_entry nat_cmp es x.id x
     → fs ≡ map keyed (placed x xs)

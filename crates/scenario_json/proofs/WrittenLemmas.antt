@@ -1,4 +1,4 @@
--- What is written of a scenario has no float, does not nest deep, and reads as that scenario.
+-- For `write`: what is written for a scenario has no float, is not deep, and is read back as that scenario.
 use Rattle.std.proofs.Common.{◌≡◌, ◌∙◌, ℕ, suc, ◌+◌, ◌<◌, ◌≤◌, true, false, ◌==◌, List, [], ◌∷◌, ◌++◌, length, get_or, map, take, max, sum, All, Option, Some, None, append_assoc, append-nil, refl, sym, ap, subst, arith}
 use Rattle.std.specs.Prelude.{Result, Ok, Err, IfOk}
 use Rattle.std.specs.Bool.{⊤}
@@ -63,7 +63,7 @@ members-plain (Rated rate floor) sc =
 pub data-plain : (sc : Scenario) → has_float (data_for sc) ≡ false
 data-plain sc = members-plain sc.fall sc
 
--- ---- how deep it nests
+-- ---- the depth
 
 items-shallow : {A : Type 0} (write : A → Data) (most : ℕ) (xs : List A) → ((x : A) → depth (write x) ≤ most) → items_depth (items_of (map write xs)) ≤ most
 items-shallow write most [] shallow = omega arith
@@ -90,7 +90,7 @@ worker-shallow : (w : Worker) → depth (worker_for w) ≤ 1
 unfolding worker_for
 worker-shallow w = omega arith
 
--- an object of these deepest members is within the reader's depth
+-- an object with these deepest members is within the reader's depth
 within-three : (a b c : ℕ) → a ≤ 2 → b ≤ 1 → c ≤ 1 → suc (max a (max 0 (max (suc b) (max 0 (max 0 (max (suc c) 0)))))) ≤ 127
 within-three a b c low middle high =
     let last : max (suc c) 0 ≤ 2 = at-most (suc c) 0 2 (omega (arith, high)) (omega arith) in
@@ -122,7 +122,7 @@ members-shallow (Rated rate floor) sc =
 pub data-shallow : (sc : Scenario) → depth (data_for sc) ≤ 127
 data-shallow sc = members-shallow sc.fall sc
 
--- ---- members, read
+-- ---- reading members
 
 then-reads : {A B : Type 0} (r : Result A ScenarioErr) (x : A) (f : A → Result B ScenarioErr) (answer : Result B ScenarioErr) → r ≡ Ok x → f x ≡ answer → (r >>= f) ≡ answer
 then-reads r x f answer is next = ap (λ q. q >>= f) is ∙ next
@@ -213,7 +213,7 @@ has-own : (ys : List Station) (x : Station) (rest : List Station) → is_in (ids
 has-own [] x rest = or_left (x.id == x.id) (is_in (ids rest) x.id) (eq-eqb x.id x.id refl)
 has-own (y ∷ ys) x rest = or_right (y.id == x.id) (is_in (ids (ys ++ x ∷ rest)) x.id) (has-own ys x rest)
 
--- of stations that ascend, each is new behind those before it, and its place is the last
+-- if stations ascend, each is new after those before it, and its place is the last
 placed-last : (x : Station) (before rest : List Station) → is_ascending (ids (before ++ x ∷ rest)) ≡ true → (has_id before x.id ≡ false) × (placed x before ≡ before ++ x ∷ [])
 placed-last x [] rest up = (refl, refl)
 placed-last x (y ∷ ys) rest up =
@@ -281,9 +281,9 @@ all-workers-read d ws found some few limits proves =
     (then-reads (each_from worker_in 1 (map worker_for ws)) ws _ _ (each-reads IsWorkerWithinLimits worker_in worker_for worker-reads 1 ws limits)
     (prover-reads ws proves))
 
--- ---- the whole
+-- ---- the scenario
 
--- the value is an object that tells all of the scenario but how the price falls
+-- the value is an object that has all of the scenario except how the price falls
 record Tells (sc : Scenario) (d : Data) : Type 0 where
   pub whole : is_some (as_object d) ≡ true
   pub version_is : get (name_text names.Version) d ≡ Some (whole_for sc.version)
@@ -320,7 +320,7 @@ made : (sc : Scenario) (owners : Option (List OwnerLine)) → sc.owners ≡ owne
     → record { version = sc.version; top = sc.top; opening = sc.opening; fall = sc.fall; stations = sc.stations; workers = sc.workers; owners = owners } ≡ sc
 made sc owners is = rw (← is) refl
 
--- a scenario is read where its members are
+-- a scenario is read if its members are
 members-read : (d : Data) (version top opening : ℕ) (fall : Fall) (stations : List Station) (workers : List Worker) (sc : Scenario)
     → object_in names.Scenario 0 d ≡ Ok d → member_number names.Version 0 1 2 d ≡ Ok version → member_number names.Top 0 14 51 d ≡ Ok top → member_number names.Opening 0 1 1000000 d ≡ Ok opening
     → fall_in version opening d ≡ Ok fall → stations_in d ≡ Ok stations → workers_in d ≡ Ok workers

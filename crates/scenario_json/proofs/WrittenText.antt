@@ -1,4 +1,4 @@
--- The text that is written of a scenario, byte for byte, reads as that scenario.
+-- For `laws`: the text that is written for a scenario, byte for byte, is read back as that scenario.
 use Rattle.std.proofs.Common.{◌≡◌, ◌∙◌, ℕ, suc, ◌<◌, ◌≤◌, ◌^◌, Bool, true, false, List, [], ◌∷◌, ◌++◌, map, max, All, Option, Some, None, decimal, option_map, append-nil, refl, sym, ap, ap₂, subst, arith}
 use Rattle.std.specs.Prelude.{Ok, codes, option_and_then}
 use Rattle.std.specs.Bool.{⊤}
@@ -130,11 +130,11 @@ mutual
       (IsUtf8-append (58 ∷ []) (compact_text d ++ members_text true ms) (IsUtf8-are_ascii (58 ∷ []) refl)
       (IsUtf8-append (compact_text d) (members_text true ms) (text-utf8 d h.1) (members-utf8 true ms h.2))))
 
--- the tokens as JSON, and that as a value
+-- the tokens as JSON, and this as a value
 abbrev from_tokens : List Token → Option Data
 from_tokens ts = option_and_then of_json (option_and_then (λ p. json.if_last p.0 p.1) (json.value 127 ts))
 
--- its text is read as its outline is
+-- the text of a value is read as its outline is
 read-text : (d : Data) → IsTold d → depth d ≤ 127 → read (compact_text d) ≡ of_json (outline d)
 read-text d told shallow =
     let j : json.Json = outline d in
@@ -150,7 +150,7 @@ read-text d told shallow =
 number-back : (n : ℕ) → n < 2 ^ 64 → of_json (outline (whole_for n)) ≡ Some (whole_for n)
 number-back n h = ap (option_map number) (number_of-decimal n h)
 
--- the value is told, and its outline is it
+-- the value can be written, and is its outline
 record IsBack (d : Data) : Type 0 where
   pub told : IsTold d
   pub back : of_json (outline d) ≡ Some d
@@ -218,7 +218,7 @@ worker-back w good =
     let limits : IsWorkerWithinLimits w = good.1 in
     worker-is w (whole-back w.budget (budget-small w.kind w.budget limits.budget)) (kind-back w.kind) (whole-back w.seed (omega (arith, seed)))
 
--- ---- the whole
+-- ---- the scenario
 
 -- what both versions have last
 record HasLast (sc : Scenario) : Type 0 where

@@ -9,11 +9,11 @@ use Rattle.pack_defs.specs.Scenario.{facilities}
 use Rattle.scenario_json.specs.declared.join.JoinErr.{JoinErr}
 use Rattle.scenario_json.specs.declared.join.JoinErr.TheVariants.{MissingDomain, NoMemory}
 
--- the first of the stations that has no row
+-- The first of the stations that has no domain row.
 abbrev pub first_missing : List ℕ → List Domain → Option ℕ
 first_missing stations domains = find (λ s. not (is_some (channels_of domains s))) stations
 
--- the book, unless a station is missing
+-- The book, unless a station is missing.
 abbrev pub book_unless : Option ℕ → BookView → Result BookView JoinErr
 book_unless (Some s) book = Err (MissingDomain s)
 book_unless None book = Ok book
@@ -22,7 +22,7 @@ book_unless None book = Ok book
 unfoldable pub joined : Scenario → List Domain → List Pair → Result BookView JoinErr
 joined sc domains pairs = book_unless (first_missing (facilities sc) domains) (cut_book sc.top (facilities sc) domains pairs)
 
--- the answer is this join; want of memory may come at any time
+-- What a call's result says of the join: it is this one, and `NoMemory` says nothing.
 abbrev pub Joins : Result BookView JoinErr → Result BookView JoinErr → Type 0
 Joins join (Ok book) = join ≡ Ok book
 Joins join (Err (MissingDomain s)) = join ≡ Err (MissingDomain s)

@@ -1,5 +1,5 @@
--- The members of a JSON object, each read as what it has to be, or refused. A place is that of an item in its list, from
--- 1, and 0 for what stands in no list.
+-- The members of a JSON object, each read as what it must be, or rejected. A place is that of an item in its list, from 1, and 0
+-- outside lists.
 use Rattle.std.specs.Prelude.{ℕ, ◌||◌, nat_lt, if◌then◌else◌, List, [], ◌∷◌, length, option_and_then, Result, Ok, Err}
 use Rattle.std.specs.Option.{is_some, ok_or, option_map}
 use Rattle.serde_json.specs.Data.{Data, Items, no_items, item}
@@ -10,39 +10,39 @@ use Rattle.scenario_json.specs.declared.name.Name.{Name}
 use Rattle.scenario_json.specs.Name.{name_text}
 use Rattle.pack_defs.specs.Steps.{◌>>=◌}
 
--- the value, which has to be an object
+-- The value, which must be an object.
 abbrev pub object_in : Name → ℕ → Data → Result Data ScenarioErr
 object_in name at d = if is_some (as_object d) then Ok d else Err (WrongKind name at)
 
--- the object's member of that name, which has to be there
+-- The object's member of this name, which must be present.
 abbrev pub member : Name → ℕ → Data → Result Data ScenarioErr
 member name at d = ok_or (get (name_text name) d) (MissingField name at)
 
--- the value, which has to be a whole number, 0 to 2^64 - 1, written without point or exponent
+-- The value, which must be a whole number, 0 to 2^64 - 1, written without point or exponent.
 abbrev pub whole : Name → ℕ → Data → Result ℕ ScenarioErr
 whole name at d = ok_or (option_and_then as_u64 (as_number d)) (WrongKind name at)
 
--- the number, which has to be from least to most
+-- The number, which must be from `least` to `most`.
 abbrev pub within_limits : Name → ℕ → ℕ → ℕ → ℕ → Result ℕ ScenarioErr
 within_limits name at least most n = if nat_lt n least || nat_lt most n then Err (OutOfLimit name at) else Ok n
 
--- the object's member of that name, a whole number from least to most
+-- The object's member of this name, a whole number from `least` to `most`.
 abbrev pub member_number : Name → ℕ → ℕ → ℕ → Data → Result ℕ ScenarioErr
 member_number name at least most d = do
   found ← member name at d
   n ← whole name at found
   within_limits name at least most n
 
--- the items of an array as a list
+-- The items of an array, as a list.
 abbrev pub array_items : Items → List Data
 array_items no_items = []
 array_items (item d ds) = d ∷ array_items ds
 
--- the value, which has to be an array
+-- The value, which must be an array.
 abbrev pub array_in : Name → Data → Result (List Data) ScenarioErr
 array_in name d = ok_or (option_map array_items (as_array d)) (WrongKind name 0)
 
--- the object's member of that name, a list of least to most items
+-- The object's member of this name, a list of `least` to `most` items.
 abbrev pub list : Name → ℕ → ℕ → Data → Result (List Data) ScenarioErr
 list name least most d = do
   found ← member name 0 d

@@ -6,8 +6,8 @@ use Rattle.pack_defs.specs.declared.scenario.Scenario.{Scenario}
 use Rattle.pack_defs.specs.declared.station.Station.{Station}
 use Rattle.pack_defs.specs.Prices.{declines, stays}
 
--- a station, as it is listed, declines the opening offer: no line says that it stays in round 0; or, where its value stands
--- for lines, it has none, or one above the opening price times its volume
+-- Whether a listed station declines the opening offer: no owner's answer keeps it in round 0. Without owners' answers, it declines
+-- if it has no value, or one above the opening price times its volume.
 abbrev pub declines_opening : Scenario → Station → Bool
 declines_opening sc x =
     option_map_or (λ lines. not (stays lines 0 x.id)) sc.owners (option_map_or (λ v. nat_lt (sc.opening * x.volume) v) x.value true)

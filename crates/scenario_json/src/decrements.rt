@@ -13,7 +13,7 @@ use pack_defs::limits::{MOST_DECREMENT, MOST_ROUNDS};
 use serde_json::Value;
 use std::alloc::Global;
 
-/// The decrements of the object, at most the opening price together.
+/// Reads the decrements of the object. Their sum is at most the opening price.
 #[tactic(auto, unfolding(crate::specs::ScenarioOf::decrements_in))]
 pub(crate) fn decrements_in(
     alloc: Global,
@@ -41,7 +41,7 @@ fn decrements_from(alloc: Global, items: &[Value]) -> Result<Items<u32>, Scenari
     Ok(Items::from_vec(decrements))
 }
 
-// The decrement that the item at this place is.
+// Returns the decrement that the item at this place is.
 fn decrement_in(item: &Value, at: u64) -> Result<u32, ScenarioErr>
     ensures { result ≡ decrement_in at (view item.now) }
 {
@@ -49,7 +49,7 @@ fn decrement_in(item: &Value, at: u64) -> Result<u32, ScenarioErr>
     Ok(within(number, Name::Decrements, at, 1, MOST_DECREMENT)? as u32)
 }
 
-// Whether the decrements are at most the opening price together.
+// Whether the sum of the decrements is at most the opening price.
 fn falls_within(decrements: &[u32], opening: u32) -> bool
     ensures { result ≡ nat_le (sum decrements.now) opening }
 {

@@ -1,4 +1,4 @@
-//! Why a scenario is refused.
+//! Why a scenario is rejected.
 
 ghost use Rattle.std.specs.Prelude.{◌≡◌};
 ghost use Rattle.scenario_json.specs.declared.error.ScenarioErr.TheVariants.{NoMemory};
@@ -9,17 +9,17 @@ use thiserror::Error;
 
 /// Why there is no scenario: the first that holds, in the order of reading.
 ///
-/// - `Syntax`: the bytes are no JSON text.
-/// - `MissingField`: the member isn't there.
-/// - `WrongKind`: the member, or an item of the list of this name, is of another kind than it has to be.
-/// - `OutOfLimit`: it is of that kind, but outside its limits, or a list of too few or too many items.
+/// - `Syntax`: the bytes are not a JSON text.
+/// - `MissingField`: the member is missing.
+/// - `WrongKind`: the member, or an item of the list of this name, has the wrong JSON type.
+/// - `OutOfLimit`: the type is right, but the value is outside its limits, or the list has too few or too many items.
 /// - `RepeatedStation`: an earlier station has this id.
-/// - `SumOverOpening`: the decrements are together above the opening price.
+/// - `SumOverOpening`: the sum of the decrements is above the opening price.
 /// - `NoProver`: no worker is of kind "cdcl".
 /// - `NoMemory`: memory ran out.
 ///
-/// `at` is the place of the item, of the station or of the worker in its list, counted from 1. It is 0 for the whole, for
-/// a member of it, and for a list itself.
+/// `at` is the place of the item, station or worker in its list, from 1. It is 0 for the scenario, for its members, and for a list
+/// itself.
 #[derive(Clone, Copy, Debug, PartialEq, Eq, Error)]
 pub enum ScenarioErr {
     #[error("not JSON")]

@@ -31,12 +31,12 @@ impl From<AllocError> for JoinErr {
     }
 }
 
-/// The book of the scenario's stations: their channels from 14 up to its top channel, and the pairs whose two entries
-/// stand on these. It takes about as long as the stations and the pairs are many.
+/// Returns the book of the scenario's stations: their channels from 14 up to its top channel, and the pairs with both entries on
+/// these. Takes time roughly proportional to the number of stations and pairs.
 ///
 /// # Errors
 ///
-/// `MissingDomain` with the least station of the scenario that has no domain, `NoMemory` for want of memory.
+/// `MissingDomain` with the least station of the scenario that has no domain, or `NoMemory`.
 #[tactic(auto, unfolding(crate::specs::Joined::joined))]
 pub fn join(alloc: Global, sc: &Scenario, domains: &Domains, pairs: &Pairs) -> Result<Book, JoinErr>
     requires { IsWithinLimits sc.now }
@@ -49,14 +49,14 @@ pub fn join(alloc: Global, sc: &Scenario, domains: &Domains, pairs: &Pairs) -> R
     Ok(Book::build(alloc, sc.top, &ids, domains.list(), pairs.list())?)
 }
 
-// The ids of the stations.
+// Returns the ids of the stations.
 fn ids_of(alloc: Global, stations: &[Station]) -> Result<Vec<u32>, AllocError>
     ensures { IfOk result (λ v. v.items ≡ map (λ x. x.id) stations.now) }
 {
     stations.iter().map(|station| station.id).collect(alloc)
 }
 
-// The first of the stations that has no domain.
+// Returns the first of the stations that has no domain.
 fn first_missing(ids: &[u32], domains: &Domains) -> Option<u32>
     ensures { result ≡ first_missing ids.now domains.now }
 {

@@ -1,4 +1,4 @@
-//! Members of a JSON object, and the whole numbers that they are.
+//! Members of a JSON object, and whole numbers within limits: the steps that every reader of this crate uses.
 
 ghost use Rattle.std.specs.Prelude.{◌≡◌, ◌≤◌, IfOk, map};
 ghost use Rattle.std.specs.Result.{result_map_both};
@@ -9,7 +9,7 @@ use crate::error::ScenarioErr;
 use crate::name::Name;
 use serde_json::Value;
 
-/// The object that the value is.
+/// Returns the value, which must be an object.
 pub(crate) fn object_in(value: &Value, name: Name, at: u64) -> Result<&Value, ScenarioErr>
     ensures { result_map_both (λ v. view v.now) (λ e. e) result ≡ object_in name at (view value.now) }
 {
@@ -19,7 +19,7 @@ pub(crate) fn object_in(value: &Value, name: Name, at: u64) -> Result<&Value, Sc
     Ok(value)
 }
 
-/// The object's member of this name.
+/// Returns the object's member of this name.
 pub(crate) fn member(object: &Value, name: Name, at: u64) -> Result<&Value, ScenarioErr>
     ensures { result_map_both (λ v. view v.now) (λ e. e) result ≡ member name at (view object.now) }
 {
@@ -29,7 +29,7 @@ pub(crate) fn member(object: &Value, name: Name, at: u64) -> Result<&Value, Scen
     Ok(found)
 }
 
-/// The whole number that the value is, 0 to 2^64 - 1.
+/// Returns the whole number that the value is, 0 to 2^64 - 1.
 pub(crate) fn whole(value: &Value, name: Name, at: u64) -> Result<u64, ScenarioErr>
     ensures { result ≡ whole name at (view value.now) }
 {
@@ -39,7 +39,7 @@ pub(crate) fn whole(value: &Value, name: Name, at: u64) -> Result<u64, ScenarioE
     Ok(number)
 }
 
-/// The number, which has to be from `least` to `most`.
+/// Returns the number, which must be from `least` to `most`.
 pub(crate) fn within(
     number: u64,
     name: Name,
@@ -56,7 +56,7 @@ pub(crate) fn within(
     Ok(number)
 }
 
-/// The object's member of this name, a whole number from `least` to `most`.
+/// Returns the object's member of this name, a whole number from `least` to `most`.
 pub(crate) fn number(
     object: &Value,
     name: Name,
@@ -72,7 +72,7 @@ pub(crate) fn number(
     within(number, name, at, least, most)
 }
 
-/// The items of the array that the value is.
+/// Returns the items of the array that the value is.
 pub(crate) fn array_in(value: &Value, name: Name) -> Result<&[Value], ScenarioErr>
     ensures { result_map_both (λ items. map view items.now) (λ e. e) result ≡ array_in name (view value.now) }
 {
@@ -82,7 +82,7 @@ pub(crate) fn array_in(value: &Value, name: Name) -> Result<&[Value], ScenarioEr
     Ok(items)
 }
 
-/// The object's member of this name, a list of `least` to `most` items.
+/// Returns the object's member of this name, a list of `least` to `most` items.
 pub(crate) fn list(
     object: &Value,
     name: Name,

@@ -1,4 +1,4 @@
-//! The stations read so far.
+//! The stations read so far. The reader rejects a repeated id and returns the stations ascending.
 
 ghost use Rattle.std.specs.Prelude.{◌≡◌, [], IfOk, OnOk, IsFalse};
 ghost use Rattle.scenario_json.specs.ScenarioOf.{has_id, placed};
@@ -27,7 +27,7 @@ impl Model for Roster {
 }
 
 impl Roster {
-    /// No station.
+    /// Returns no stations.
     pub(crate) fn new(alloc: Global) -> Roster
         ensures { result ≡ [] }
     {
@@ -36,14 +36,14 @@ impl Roster {
         }
     }
 
-    /// Whether a station has this id.
+    /// Checks whether a station has this id.
     pub(crate) fn has(&self, id: u32) -> bool
         ensures { result ≡ has_id self.now id }
     {
         self.by_id.contains_key(&id)
     }
 
-    /// Puts a station of a new id in its place. The only error is want of memory.
+    /// Adds a station with a new id. Fails only if memory runs out.
     pub(crate) fn place(&mut self, station: Station) -> Result<(), NoMemory>
         requires { IsFalse (has_id self.old station.id) }
         ensures { OnOk result (self.new ≡ placed station self.old) }
@@ -52,7 +52,7 @@ impl Roster {
         Ok(())
     }
 
-    /// The stations. The only error is want of memory.
+    /// Returns the stations. Fails only if memory runs out.
     pub(crate) fn into_stations(self, alloc: Global) -> Result<Vec<Station>, NoMemory>
         ensures { IfOk result (λ v. v.items ≡ self) }
     {

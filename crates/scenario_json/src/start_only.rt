@@ -1,4 +1,4 @@
-//! The scenario of the stations that start on air, and of no others.
+//! The scenario of the stations that start on air, and of no others: `seek` carries out such auctions up to several top channels.
 
 ghost use Rattle.std.specs.Prelude.{◌≡◌, ◌≤◌, IfOk, filter};
 ghost use Rattle.pack_defs.specs.declared.limits.TheConstants.{GREATEST_CHANNEL, LEAST_CHANNEL};
@@ -12,9 +12,9 @@ use pack_defs::scenario::Scenario;
 use pack_defs::station::Station;
 use std::alloc::{AllocError, Global};
 
-/// The scenario of the start set alone, up to this top channel, from 14 to 51: the stations that decline the opening offer,
-/// in their order, and a price that never falls. The opening price, the workers and what the owners say are those of the
-/// scenario. It takes one pass over the stations, and one over the owners' lines. The only error is want of memory.
+/// Returns the scenario of the start set alone, up to this top channel, from 14 to 51. Its stations are those that decline the
+/// opening offer, in their order, and its price never falls. The opening price, the workers and the owners' answers are the
+/// scenario's. Costs one pass over the stations and one over the owners' answers. Fails only if memory runs out.
 pub fn start_only(alloc: Global, sc: &Scenario, top: u8) -> Result<Scenario, AllocError>
     requires limits { IsWithinLimits sc.now }
     requires least_top { LEAST_CHANNEL ≤ top }
@@ -35,7 +35,7 @@ pub fn start_only(alloc: Global, sc: &Scenario, top: u8) -> Result<Scenario, All
     })
 }
 
-// The stations that decline the opening offer, in their order.
+// Returns the stations that decline the opening offer, in their order.
 fn starting(alloc: Global, sc: &Scenario) -> Result<Vec<Station>, AllocError>
     ensures { IfOk result (λ v. v.items ≡ filter (declines_opening sc.now) sc.now.stations) }
 {
@@ -45,7 +45,7 @@ fn starting(alloc: Global, sc: &Scenario) -> Result<Vec<Station>, AllocError>
         .collect(alloc)
 }
 
-// Whether the station declines the opening offer. Where owners say lines, its value says nothing.
+// Whether the station declines the opening offer. If the scenario has owners' answers, the station's value is ignored.
 fn declines_opening(sc: &Scenario, station: &Station) -> bool
     ensures { result ≡ declines_opening sc.now station.now }
 {
@@ -58,7 +58,7 @@ fn declines_opening(sc: &Scenario, station: &Station) -> bool
     }
 }
 
-// What the owners say, if they say anything but their values.
+// Returns a copy of the owners' answers, if there are any.
 fn copied_owners(alloc: Global, sc: &Scenario) -> Result<Option<Owners>, AllocError>
     ensures { IfOk result (λ copy. copy ≡ sc.now.owners) }
 {

@@ -17,7 +17,7 @@ use pack_defs::worker::{Kind, Worker};
 use serde_json::Value;
 use std::alloc::Global;
 
-/// The workers of the object, of which one at least is of kind "cdcl".
+/// Reads the workers of the object. At least one must be of kind "cdcl".
 #[tactic(auto, unfolding(crate::specs::ScenarioOf::workers_in))]
 pub(crate) fn workers_in(alloc: Global, object: &Value) -> Result<Items<Worker>, ScenarioErr>
     ensures { ScenarioReads (workers_in (view object.now)) result }
@@ -47,14 +47,14 @@ fn one_proves(workers: &[Worker]) -> bool
     workers.iter().any(is_prover)
 }
 
-// Whether the worker is of kind "cdcl", whose solvers prove.
+// Whether the worker is of kind "cdcl", whose solver finds proofs.
 fn is_prover(worker: &Worker) -> bool
     ensures { result ≡ is_prover worker.now }
 {
     worker.kind == Kind::Cdcl
 }
 
-// The worker that the item at this place is.
+// Reads the worker that the item at this place is.
 #[tactic(auto, unfolding(crate::specs::ScenarioOf::worker_in))]
 fn worker_in(item: &Value, at: u64) -> Result<Worker, ScenarioErr>
     ensures { result ≡ worker_in at (view item.now) }
@@ -66,7 +66,7 @@ fn worker_in(item: &Value, at: u64) -> Result<Worker, ScenarioErr>
     Ok(Worker { kind, budget, seed })
 }
 
-// The kind of a worker.
+// Reads the kind of a worker.
 fn kind_in(object: &Value, at: u64) -> Result<Kind, ScenarioErr>
     ensures { result ≡ kind_in at (view object.now) }
 {
@@ -86,7 +86,7 @@ fn kind_in(object: &Value, at: u64) -> Result<Kind, ScenarioErr>
     Ok(kind)
 }
 
-// The kind of this name.
+// Returns the kind of this name.
 fn kind_named(text: &str) -> Option<Kind>
     ensures { result ≡ kind_named text.now }
 {
@@ -97,7 +97,7 @@ fn kind_named(text: &str) -> Option<Kind>
     }
 }
 
-// The most that a worker of this kind may spend on a query.
+// Returns the greatest budget for a query of a worker of this kind: proof lines or moves.
 fn most_budget(kind: Kind) -> u64
     ensures value { result ≡ most_budget kind }
     ensures small { result ≤ MOST_MOVES }
@@ -108,7 +108,7 @@ fn most_budget(kind: Kind) -> u64
     }
 }
 
-// The seed of a worker; 0 where there is no such member.
+// Reads the seed of a worker, which is 0 if the member is absent.
 fn seed_in(object: &Value, at: u64) -> Result<u64, ScenarioErr>
     ensures { result ≡ seed_in at (view object.now) }
 {

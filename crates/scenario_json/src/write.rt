@@ -16,16 +16,15 @@ use pack_defs::worker::{Kind, Worker};
 use serde_json::{Value, json};
 use std::alloc::{AllocError as NoMemory, Global};
 
-/// The text of the scenario's file: a JSON object without spaces and without a line end, its members in byte order of
-/// their names.
+/// Returns the text of the scenario's file. It is a JSON object without spaces and without a line end, with its members in byte
+/// order of their names.
 ///
 /// - By a list of decrements: `decrements`, `opening`, `stations`, `top`, `version`, `workers`.
 /// - By rate: `floor`, `opening`, `rate`, `stations`, `top`, `version`, `workers`.
 ///
-/// A station has `id`, `value` (null for a station without one) and `volume`; a worker `budget`, `kind` and `seed`. What
-/// the owners say is left out. The text of a scenario within the limits, without lines of owners, is read as that scenario.
-///
-/// The only error is want of memory.
+/// A station has `id`, `value` (null for a station without one) and `volume`; a worker has `budget`, `kind` and `seed`. Owners'
+/// answers are left out. If the scenario is within the limits and has no owners' answers, the text is read back as that scenario.
+/// Fails only if memory runs out.
 pub fn write_scenario(alloc: Global, sc: &Scenario) -> Result<Vec<u8>, NoMemory>
     ensures text { IfOk result (λ v. v.items ≡ compact_text (data_for sc.now)) }
     ensures reads_back { IfOk result (λ v. IsWithinLimits sc.now → sc.now.owners ≡ None → scenario_of v.items ≡ Ok sc.now) }
@@ -35,7 +34,7 @@ pub fn write_scenario(alloc: Global, sc: &Scenario) -> Result<Vec<u8>, NoMemory>
     value.to_vec(alloc)
 }
 
-// Each number of a station is one of a file, since it has 32 bits.
+// Proves that each station's id is one that a file can hold, since it has 32 bits.
 fn keeps_file_numbers(stations: &[Station])
     ensures { All IsFileNumber stations.now }
 {
@@ -44,12 +43,12 @@ fn keeps_file_numbers(stations: &[Station])
     }
 }
 
-// A number of 32 bits is one of a file.
+// Proves that a number of 32 bits is one that a file can hold.
 fn keeps_file_number(id: u32)
     ensures { id ≤ 4294967295 }
 {}
 
-// The object of a scenario.
+// Returns the object of a scenario.
 fn scenario_value(alloc: Global, sc: &Scenario) -> Result<Value, NoMemory>
     ensures { IfOk result (λ v. view v ≡ data_for sc.now) }
 {
@@ -59,7 +58,7 @@ fn scenario_value(alloc: Global, sc: &Scenario) -> Result<Value, NoMemory>
     }
 }
 
-// The object of a scenario whose price falls by these decrements.
+// Returns the object of a scenario whose price falls by these decrements.
 #[tactic(auto, unfolding(crate::specs::Written::members_for, crate::specs::Written::last_members))]
 fn listed_value(alloc: Global, sc: &Scenario, decrements: &[u32]) -> Result<Value, NoMemory>
     ensures { IfOk result (λ v. view v ≡ object (members_for (Listed decrements.now) sc.now)) }
@@ -77,7 +76,7 @@ fn listed_value(alloc: Global, sc: &Scenario, decrements: &[u32]) -> Result<Valu
     })
 }
 
-// The object of a scenario whose price falls by this rate and floor.
+// Returns the object of a scenario whose price falls by this rate and floor.
 #[tactic(auto, unfolding(crate::specs::Written::members_for, crate::specs::Written::last_members))]
 fn rated_value(alloc: Global, sc: &Scenario, rate: u32, floor: u32) -> Result<Value, NoMemory>
     ensures { IfOk result (λ v. view v ≡ object (members_for (Rated rate floor) sc.now)) }
@@ -95,7 +94,7 @@ fn rated_value(alloc: Global, sc: &Scenario, rate: u32, floor: u32) -> Result<Va
     })
 }
 
-// The list of the decrements.
+// Returns the list of the decrements.
 fn decrements_value(alloc: Global, decrements: &[u32]) -> Result<Value, NoMemory>
     ensures { IfOk result (λ v. view v ≡ list_for whole_for decrements.now) }
 {
@@ -106,7 +105,7 @@ fn decrements_value(alloc: Global, decrements: &[u32]) -> Result<Value, NoMemory
     Ok(Value::Array(items))
 }
 
-// The list of the stations.
+// Returns the list of the stations.
 fn stations_value(alloc: Global, stations: &[Station]) -> Result<Value, NoMemory>
     ensures { IfOk result (λ v. view v ≡ list_for station_for stations.now) }
 {
@@ -117,7 +116,7 @@ fn stations_value(alloc: Global, stations: &[Station]) -> Result<Value, NoMemory
     Ok(Value::Array(items))
 }
 
-// A station.
+// Returns the object of a station.
 #[tactic(auto, unfolding(crate::specs::Written::station_for))]
 fn station_value(alloc: Global, station: &Station) -> Result<Value, NoMemory>
     ensures { IfOk result (λ v. view v ≡ station_for station.now) }
@@ -126,7 +125,7 @@ fn station_value(alloc: Global, station: &Station) -> Result<Value, NoMemory>
     json!(in alloc; {"id": station.id, "value": value, "volume": station.volume})
 }
 
-// A value; null for a station without one.
+// Returns a value, or null for a station without one.
 fn value_value(value: Option<u64>) -> Value
     ensures { view result ≡ value_for value }
 {
@@ -136,7 +135,7 @@ fn value_value(value: Option<u64>) -> Value
     }
 }
 
-// The list of the workers.
+// Returns the list of the workers.
 fn workers_value(alloc: Global, workers: &[Worker]) -> Result<Value, NoMemory>
     ensures { IfOk result (λ v. view v ≡ list_for worker_for workers.now) }
 {
@@ -147,7 +146,7 @@ fn workers_value(alloc: Global, workers: &[Worker]) -> Result<Value, NoMemory>
     Ok(Value::Array(items))
 }
 
-// A worker.
+// Returns the object of a worker.
 #[tactic(auto, unfolding(crate::specs::Written::worker_for))]
 fn worker_value(alloc: Global, worker: &Worker) -> Result<Value, NoMemory>
     ensures { IfOk result (λ v. view v ≡ worker_for worker.now) }
@@ -156,7 +155,7 @@ fn worker_value(alloc: Global, worker: &Worker) -> Result<Value, NoMemory>
     json!(in alloc; {"budget": worker.budget, "kind": kind, "seed": worker.seed})
 }
 
-// The name of a kind.
+// Returns the name of a kind.
 fn kind_text(kind: Kind) -> &'static str
     ensures { result.now ≡ kind_text kind }
 {

@@ -1,4 +1,4 @@
--- The made files are accepted.
+-- For `make`: the generated files are accepted.
 use Rattle.std.proofs.Common.{◌≡◌, ◌∙◌, ◌≤◌, ℕ, List, map, ap, subst, sym}
 use Rattle.std.specs.Prelude.{Ok}
 use Rattle.pack_defs.specs.Book.{cut_book}

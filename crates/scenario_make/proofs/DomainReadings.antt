@@ -1,4 +1,4 @@
--- The made domain file, read again: each station has the channels 14 to 17.
+-- For `laws`: the generated domain file is read back, with the channels 14 to 17 for each station.
 use Rattle.std.proofs.Common.{◌≡◌, ◌∙◌, ◌<◌, ◌≤◌, ◌+◌, ◌==◌, ◌∷◌, ◌++◌, [], ℕ, zero, suc, Bool, List, Some, None, true, false, not, nat_le, find, length, map, decimal, ne_eqb, eq-eqb, inl, inr, refl, sym, ap, arith}
 use Rattle.std.specs.Prelude.{Result, Ok, codes}
 use Rattle.std.specs.List.{flat_map, range_with_len}
@@ -14,7 +14,7 @@ use Rattle.scenario_make.specs.MadeFiles.{key_line, made_domain, made_domain_lin
 use Rattle.scenario_make.proofs.LineReadings.{AreSmall, IsKey, domain-key, line-first, line-record, number-again, numbers-again}
 use Rattle.scenario_make.proofs.RangeLemmas.{map-more}
 
--- what the first line of a text makes of a state
+-- the state after the first line of a text
 pub line-adds : {S : Type 0} (add : S → List (List ℕ) → Result S RowWhy) (state next : S) (line : ℕ) (key : List ℕ) (n : ℕ) (ns rest : List ℕ) → IsKey key → AreSmall (n ∷ ns)
     → add state (key ∷ map decimal (n ∷ ns)) ≡ Ok next
     → after_lines add state line (lines_of (key_line key (n ∷ ns) ++ rest)) ≡ after_lines add next (line + 1) (lines_of rest)

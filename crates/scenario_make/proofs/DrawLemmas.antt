@@ -1,4 +1,4 @@
--- The generator a few words on.
+-- For `stations` and `rows`: the generator a few words later.
 use Rattle.std.proofs.Common.{◌≡◌, ◌∙◌, ◌+◌, ◌-◌, ◌*◌, ◌%◌, ◌==◌, ◌∷◌, ◌++◌, [], ℕ, suc, Bool, true, false, List, Some, nat_lt, cond, ne_eqb, refl, sym, ap, arith, filter}
 use Rattle.std.specs.List.{flat_map, range_with_len}
 use Rattle.std.proofs.lemmas.List.{append-nil}
@@ -9,12 +9,12 @@ use Rattle.scenario_make.specs.Draws.{draw_at, generator_after}
 use Rattle.scenario_make.specs.MadeFiles.{behind_links, block_end, link_draws, made_rows_at, made_station, made_value, made_volume}
 use Rattle.scenario_make.proofs.RangeLemmas.{filter-more, written-more}
 
--- one word more
+-- one more word
 pub after-one : (g h : Lcg) (k n : ℕ) → h ≡ generator_after g k → n ≡ k + 1 → (pcg32 h).1 ≡ generator_after g n
 unfolding generator_after
 after-one g h k n e m = let s : n ≡ suc k = omega (arith, m) in rw (s, e) refl
 
--- no words more
+-- no more words
 pub after-none : (g : Lcg) (n : ℕ) → n ≡ 0 → g ≡ generator_after g n
 unfolding generator_after
 after-none g n e = rw e refl
@@ -24,7 +24,7 @@ after-none g n e = rw e refl
 abbrev pub station-with : ℕ → ℕ → ℕ → Station
 station-with s v w = record { id = s; volume = v; value = Some w }
 
--- a station of these two draws
+-- the station of these two draws
 pub station-is : (g h next : Lcg) (i volume value : ℕ) → h ≡ generator_after g (2 * i) → next ≡ (pcg32 h).1 → volume ≡ 1 + (pcg32 h).0 % 1000 → value ≡ (pcg32 next).0 % (100 * volume + 1) → station-with (i + 1) volume value ≡ made_station g (i + 1)
 station-is g h next i volume value e n v w =
     let first : 2 * (i + 1 - 1) ≡ 2 * i = omega arith in
@@ -40,13 +40,13 @@ after-two g h next i e n =
     let later : next ≡ generator_after g (2 * i + 1) = n ∙ after-one g h (2 * i) (2 * i + 1) e refl in
     after-one g next (2 * i + 1) (2 * (i + 1)) later (omega arith)
 
--- ---- links
+-- ---- interference
 
 -- the draw of a link
 link-draw : (g h : Lcg) (s i : ℕ) → h ≡ generator_after g i → draw_at g (s + 1 + i - (s + 1)) 2 ≡ (pcg32 h).0 % 2
 link-draw g h s i e = let k : s + 1 + i - (s + 1) ≡ i = omega arith in ap (λ n. draw_at g n 2) k ∙ ap (λ x. (pcg32 x).0 % 2) (sym e)
 
--- the links as far as they are drawn
+-- the links drawn so far
 abbrev pub links-drawn : Lcg → ℕ → ℕ → List ℕ
 links-drawn g s i = filter (λ t. draw_at g (t - (s + 1)) 2 == 1) (range_with_len (s + 1) i)
 
@@ -55,18 +55,18 @@ drawn-next g h s i e =
     filter-more (λ t. draw_at g (t - (s + 1)) 2 == 1) (s + 1) i (s + 1 + i) refl
     ∙ ap (λ d. links-drawn g s i ++ cond (d == 1) ((s + 1 + i) ∷ []) []) (link-draw g h s i e)
 
--- a link more
+-- one more link
 pub link-more : (g h : Lcg) (s i d : ℕ) → h ≡ generator_after g i → d ≡ (pcg32 h).0 % 2 → d ≡ 1 → links-drawn g s (i + 1) ≡ links-drawn g s i ++ (s + 1 + i) ∷ []
 link-more g h s i d e drawn is = drawn-next g h s i e ∙ ap (λ x. links-drawn g s i ++ cond (x == 1) ((s + 1 + i) ∷ []) []) (sym drawn ∙ is)
 
--- no link more
+-- no more link
 pub link-none : (g h : Lcg) (s i d : ℕ) → h ≡ generator_after g i → d ≡ (pcg32 h).0 % 2 → (d ≡ 1 → ⊥) → links-drawn g s (i + 1) ≡ links-drawn g s i
 link-none g h s i d e drawn other =
     drawn-next g h s i e
     ∙ (ap (λ x. links-drawn g s i ++ cond (x == 1) ((s + 1 + i) ∷ []) []) (sym drawn)
     ∙ (ap (λ b. links-drawn g s i ++ cond b ((s + 1 + i) ∷ []) []) (ne_eqb d 1 other) ∙ append-nil (links-drawn g s i)))
 
--- the generator behind both kinds of draws
+-- the generator after both kinds of draws
 pub after-both : (g h next : Lcg) (s end : ℕ) → h ≡ generator_after g (end - s) → next ≡ cond (nat_lt s end) (pcg32 h).1 h → next ≡ generator_after g (link_draws s end)
 after-both g h next s end e n = n ∙ by-case (nat_lt s end)
   where
@@ -76,14 +76,14 @@ after-both g h next s end e n = n ∙ by-case (nat_lt s end)
 
 -- ---- rows
 
--- a station more of the row file
+-- one more station of the row file
 pub behind-one : (g h next : Lcg) (size i end : ℕ) → h ≡ behind_links g size i → end ≡ block_end size (i + 1) → next ≡ generator_after h (link_draws (i + 1) end) → next ≡ behind_links g size (i + 1)
 unfolding behind_links
 behind-one g h next size i end e m n =
     let k : i + 1 ≡ suc i = omega arith in
     rw (n, e, m, k) refl
 
--- its lines
+-- the lines of this station
 pub rows-one : (g h : Lcg) (size i end : ℕ) (text new : List ℕ) → h ≡ behind_links g size i → end ≡ block_end size (i + 1) → new ≡ text ++ made_rows_at h (i + 1) end → text ≡ flat_map (λ s. made_rows_at (behind_links g size (s - 1)) s (block_end size s)) (range_with_len 1 i) → new ≡ flat_map (λ s. made_rows_at (behind_links g size (s - 1)) s (block_end size s)) (range_with_len 1 (i + 1))
 rows-one g h size i end text new e m n old =
     let k : 1 + i ≡ i + 1 = omega arith in

@@ -1,4 +1,4 @@
--- A line of the two constraint files, read again: its one record has the key and the numbers.
+-- For `laws`: a line of the two constraint files is read back as one record with the key and the numbers.
 use Rattle.std.proofs.Common.{◌≡◌, ◌∙◌, ◌<◌, ◌≤◌, ◌∷◌, ◌++◌, [], ℕ, Bool, List, Some, true, false, not, filter, length, map, reverse, decimal, ne_eqb, refl, sym, ap, subst, arith, append_assoc}
 use Rattle.std.specs.Prelude.{codes}
 use Rattle.std.specs.List.{AllByRecursion}
@@ -42,7 +42,7 @@ unfolding numbers
 numbers-again [] h = refl
 numbers-again (n ∷ ns) h = rw (number-again n h.0, numbers-again ns h.1) refl
 
--- ---- fields without blanks round them
+-- ---- fields without blanks around them
 
 leading-keeps : {A : Type 0} (p : A → Bool) (xs : List A) → AllByRecursion (λ x. p x ≡ false) xs → without_leading p xs ≡ xs
 leading-keeps p [] h = refl
@@ -173,7 +173,7 @@ first-line (c ∷ line) rest h =
     let feed : c ≡ 10 → ⊥ = λ e. absurd (omega (arith, h.0, e)) in
     rw (ne_eqb c 10 feed, first-line line rest h.1) refl
 
--- a line before a text
+-- a line before the rest of a text
 pub line-first : (key ns rest : List ℕ) → IsKey key → AreSmall ns → lines_of (key_line key ns ++ rest) ≡ (key ++ behind_commas ns) ∷ lines_of rest
 line-first key ns rest k h =
     let parts : key_line key ns ++ rest ≡ (key ++ behind_commas ns) ++ 10 ∷ rest =

@@ -1,4 +1,4 @@
--- Numbers in a row, with one more at their end.
+-- Consecutive numbers, with one more at their end.
 use Rattle.std.proofs.Common.{◌≡◌, ◌∙◌, ◌+◌, ◌-◌, ◌≤◌, ◌∷◌, ◌++◌, [], ℕ, zero, suc, Bool, List, refl, sym, ap, arith, map, filter, append_assoc}
 use Rattle.std.specs.List.{flat_map, range_with_len}
 use Rattle.std.proofs.lemmas.Grind.{flat_map-append}
@@ -27,11 +27,11 @@ flat_map-more f a n k e =
 pub filter-more : (p : ℕ → Bool) (a n k : ℕ) → a + n ≡ k → filter p (range_with_len a (n + 1)) ≡ filter p (range_with_len a n) ++ filter p (k ∷ [])
 filter-more p a n k e = ap (filter p) (range-more a n k e) ∙ filter-append p (range_with_len a n) (k ∷ [])
 
--- a text that has one number more
+-- a text with one more number
 pub written-more : (f : ℕ → List ℕ) (a k : ℕ) (text new : List ℕ) → text ≡ flat_map f (range_with_len a k) → new ≡ text ++ f (a + k) → new ≡ flat_map f (range_with_len a (k + 1))
 written-more f a k text new old more = more ∙ (ap (λ t. t ++ f (a + k)) old ∙ sym (flat_map-more f a k (a + k) refl))
 
--- the same behind another text, by the number itself
+-- the same after another text, by the number itself
 pub behind-more : (f : ℕ → List ℕ) (a c : ℕ) (before text new : List ℕ) → a ≤ c → text ≡ before ++ flat_map f (range_with_len a (c - a)) → new ≡ text ++ f c → new ≡ before ++ flat_map f (range_with_len a (c + 1 - a))
 behind-more f a c before text new least old more =
     let e : c + 1 - a ≡ c - a + 1 = omega arith in

@@ -1,4 +1,4 @@
--- The made row file, read again: no line of it is refused, and the pairs stay few.
+-- For `laws`: the generated row file is read back. No line is rejected, and the pairs are few enough.
 use Rattle.std.proofs.Common.{◌≡◌, ◌∙◌, ◌≤◌, ◌+◌, ◌-◌, ◌*◌, ◌/◌, ◌==◌, ◌&&◌, ◌∷◌, ◌++◌, [], ℕ, zero, suc, Bool, List, Option, Some, None, true, false, nat_lt, filter, fold, length, map, decimal, inl, inr, refl, sym, ap, arith, append_assoc}
 use Rattle.std.specs.Prelude.{Ok, codes, min}
 use Rattle.std.specs.List.{flat_map, range_with_len}
@@ -42,9 +42,9 @@ others-add domains row told (t ∷ ts) =
     let rest = others-add domains row (with_other domains row told t) ts in
     omega (arith, one, rest)
 
--- ---- texts that are taken
+-- ---- texts that are accepted
 
--- Wherever the text stands, its lines are taken, and add at most k pairs.
+-- wherever the text is, its lines are accepted and add at most `k` pairs
 abbrev Adds : List Domain → List ℕ → ℕ → Type 0
 Adds domains text k = (told : PairsView) (line : ℕ) (rest : List ℕ) → length told.list + k ≤ 4000000
     → (next : PairsView) × (after : ℕ) × (length next.list ≤ length told.list + k)
@@ -64,7 +64,7 @@ adds-more domains x j k less first told line rest h =
     let a = first told line rest (omega (arith, h, less)) in
     (a.0, a.1, omega (arith, a.2, less), a.3)
 
--- a line whose row this is
+-- a line with this row
 adds-line : (domains : List Domain) (key : List ℕ) (n : ℕ) (ns : List ℕ) (row : Row) → IsKey key → AreSmall (n ∷ ns) → interference_row (key ∷ map decimal (n ∷ ns)) ≡ Ok row → Adds domains (key_line key (n ∷ ns)) (length row.others)
 adds-line domains key n ns row k small is told line rest h =
     let next = fold (with_other domains row) told row.others in
@@ -172,7 +172,7 @@ all-rows domains g size a (suc n) low h few =
     adds-more domains (made_rows_at (behind_links g size (a - 1)) a (block_end size a) ++ flat_map (λ s. made_rows_at (behind_links g size (s - 1)) s (block_end size s)) (range_with_len (a + 1) n)) (63 + n * 63) (suc n * 63) (omega arith)
     (adds-both domains (made_rows_at (behind_links g size (a - 1)) a (block_end size a)) (flat_map (λ s. made_rows_at (behind_links g size (s - 1)) s (block_end size s)) (range_with_len (a + 1) n)) 63 (n * 63) here rest)
 
--- the rows over any domains are read
+-- the rows are accepted over any domains
 pub rows-read : (domains : List Domain) (seed size : ℕ) → size ≤ 4096 → (told : PairsView) × (pairs_of (made_rows seed size) domains ≡ Ok told)
 unfolding pairs_of after_lines lines_of
 rows-read domains seed size few =

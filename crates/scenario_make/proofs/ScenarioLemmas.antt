@@ -1,4 +1,4 @@
--- The made scenario is one that a file can hold, and no station of it is on air at the start.
+-- For `laws`: the generated scenario is one that a file can hold, and no station of it is on air at the start.
 use Rattle.std.proofs.Common.{◌≡◌, ◌∙◌, ◌≤◌, ◌+◌, ◌-◌, ◌*◌, ◌%◌, ◌==◌, ◌∷◌, [], ℕ, zero, suc, Bool, List, Some, true, false, nat_lt, map, filter, replicate, All, inl, inr, refl, ap, arith, eqb-true}
 use Rattle.std.specs.Prelude.{Ok}
 use Rattle.std.specs.List.{range_with_len}
@@ -113,7 +113,7 @@ made-of-a-file seed size few h = record {
 pub made-reads : (seed size : ℕ) → seed ≤ 18446744073709551615 → size ≤ 4096 → scenario_of (made_scenario_text seed size) ≡ Ok (made_scenario seed size)
 made-reads seed size few h = written-reads (made_scenario seed size) (made-of-a-file seed size few h)
 
--- ---- no start
+-- ---- no station starts
 
 value-at : (g : Lcg) (xs : List ℕ) (s : ℕ) → is_in xs s ≡ true → value_in (map (made_station g) xs) s ≡ Some (made_value g s)
 value-at g [] s h = cc h
@@ -129,7 +129,7 @@ volume-at g (x ∷ xs) s h = elim (cases_Bool (x == s)) [
   | inr f ↦ rw f (volume-at g xs s (rw f at h))
 ]
 
--- a value that is drawn is at most the opening offer
+-- a drawn value is at most the opening offer
 value-low : (x v : ℕ) → nat_lt (100 * v) (x % (100 * v + 1)) ≡ false
 value-low x v =
     let w = mod-lt x {m = 100 * v + 1} (omega arith) in

@@ -1,4 +1,4 @@
--- What it is that the three files of an auction are accepted.
+-- What it means that the three files of an auction are accepted.
 use Rattle.std.specs.Prelude.{ℕ, ◌≡◌, List, [], Ok}
 use Rattle.constraint_files.specs.Domains.{domains_of}
 use Rattle.constraint_files.specs.Rows.{PairsView, pairs_of}
@@ -9,7 +9,7 @@ use Rattle.pack_defs.specs.declared.scenario.Scenario.{Scenario}
 use Rattle.scenario_json.specs.Joined.{joined}
 use Rattle.scenario_json.specs.ScenarioOf.{scenario_of}
 
--- Each file is read without a refusal, a book is made of the three, and no station is on air at the start.
+-- Whether each file is read without a fault, a book is made of the three, and no station is on air at the start.
 pub record AreAccepted (domain_file row_file scenario_file : List ℕ) : Type 0 where
   pub domains : List Domain
   pub domains_read : domains_of domain_file ≡ Ok domains

@@ -1,4 +1,4 @@
-//! How large a made auction may be. Clauses cite the constant, and so does the command that asks for one.
+//! The greatest size of a generated auction. Contracts and the command that makes one cite this constant.
 
-/// The most stations of a made auction.
+/// The most stations of a generated auction.
 pub const MOST_MADE: u32 = 4_096;

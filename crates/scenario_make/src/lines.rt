@@ -1,4 +1,4 @@
-//! The lines of the two constraint files, each written behind a text.
+//! The lines of the two constraint files, each appended to a text.
 
 ghost use Rattle.std.specs.Prelude.{◌≡◌, ◌++◌, OnOk};
 ghost use Rattle.scenario_make.specs.MadeFiles.{behind_commas, key_line};
@@ -6,7 +6,7 @@ ghost use Rattle.scenario_make.specs.MadeFiles.{behind_commas, key_line};
 use itoa::Buffer;
 use std::alloc::AllocError as NoMemory;
 
-// Adds numbers, each behind a comma.
+// Appends numbers, each after a comma.
 fn push_numbers(text: &mut Vec<u8>, numbers: &[u32]) -> Result<(), NoMemory>
     ensures { OnOk result (text.new.items ≡ text.old.items ++ behind_commas numbers.now) }
 {
@@ -18,7 +18,7 @@ fn push_numbers(text: &mut Vec<u8>, numbers: &[u32]) -> Result<(), NoMemory>
     Ok(())
 }
 
-/// Adds a line: its key, these numbers and then those, each behind a comma, and the line's end.
+/// Appends a line: its key, the numbers of both lists, each after a comma, and the line end. Fails only if memory runs out.
 pub(crate) fn push_line(
     text: &mut Vec<u8>,
     key: &[u8],

@@ -1,4 +1,4 @@
-//! The files of a made auction.
+//! The files of a generated auction.
 
 ghost use Rattle.std.specs.Prelude.{◌≡◌, ◌≤◌, IfOk};
 ghost use Rattle.scenario_make.specs.declared.limits.TheConstants.{MOST_MADE};
@@ -20,15 +20,15 @@ use std::alloc::{AllocError as NoMemory, Global};
 /// The bytes of the three files of an auction.
 #[derive(Debug, Drop)]
 pub struct Made {
-    /// The domain file: a line for each station, whose channels are 14 to 17.
+    /// The domain file: a line for each station, with the channels 14 to 17.
     pub domains: Vec<u8>,
-    /// The row file: who interferes with whom.
+    /// The row file: which stations interfere.
     pub rows: Vec<u8>,
     /// The scenario file.
     pub scenario: Vec<u8>,
 }
 
-// The domain file.
+// Returns the domain file.
 fn domain_file(alloc: Global, size: u32) -> Result<Vec<u8>, NoMemory>
     requires { size ≤ MOST_MADE }
     ensures { IfOk result (λ v. v.items ≡ made_domains size) }
@@ -40,7 +40,7 @@ fn domain_file(alloc: Global, size: u32) -> Result<Vec<u8>, NoMemory>
     Ok(text)
 }
 
-// A learner, and a walk with the seed of the auction.
+// Returns a worker that learns, and one that walks with the seed of the auction.
 fn workers(alloc: Global, seed: u64) -> Result<Vec<Worker>, NoMemory>
     ensures { IfOk result (λ v. v.items ≡ made_workers seed) }
 {
@@ -57,7 +57,7 @@ fn workers(alloc: Global, seed: u64) -> Result<Vec<Worker>, NoMemory>
     Ok(vec![in alloc; learner, walk]?)
 }
 
-// The scenario of these stations.
+// Returns the scenario of these stations.
 #[tactic(auto, unfolding(crate::specs::MadeFiles::scenario_with))]
 fn scenario_with(alloc: Global, seed: u64, stations: Vec<Station>) -> Result<Scenario, NoMemory>
     ensures { IfOk result (λ sc. sc ≡ scenario_with seed stations.items) }
@@ -73,7 +73,7 @@ fn scenario_with(alloc: Global, seed: u64, stations: Vec<Station>) -> Result<Sce
     })
 }
 
-// The three files, the stations drawn first and the links behind them.
+// Returns the three files. The stations are drawn first and the interference after them.
 fn draw_files(alloc: Global, seed: u64, size: u32) -> Result<Made, NoMemory>
     requires { size ≤ MOST_MADE }
     ensures { IfOk result (λ made. AreMade seed size made.domains.items made.rows.items made.scenario.items) }
@@ -91,11 +91,9 @@ fn draw_files(alloc: Global, seed: u64, size: u32) -> Result<Made, NoMemory>
     })
 }
 
-/// The files of the auction of this seed and size, the number of its stations. The same seed and size give the same files.
-/// The only error is want of memory.
-///
-/// The files are accepted: each is read without a refusal, a book is made of the three, and no station is on air at the
-/// start.
+/// Returns the files of the auction of this seed and size, which is the number of its stations. The same seed and size always give
+/// the same files. Each file is accepted, a book is made of the three, and no station is on air at the start. Fails only if memory
+/// runs out.
 pub fn make(alloc: Global, seed: u64, size: u32) -> Result<Made, NoMemory>
     requires some { 1 ≤ size }
     requires most { size ≤ MOST_MADE }

@@ -1,4 +1,4 @@
-//! The row file of a made auction: for each station in order the draws of whom it interferes with, and its lines.
+//! The row file of a generated auction: for each station in order the draws of its interference, and its lines.
 
 ghost use Rattle.std.specs.Prelude.{◌≡◌, ◌≤◌, ◌<◌, ◌-◌, ◌%◌, ◌==◌, ◌&&◌, ◌++◌, nat_lt, if◌then◌else◌, IfOk, OnOk};
 ghost use Rattle.rand_pcg.specs.Pcg.{pcg32};
@@ -14,7 +14,7 @@ use std::alloc::{AllocError as NoMemory, Global};
 // The channels of every station.
 const CHANNELS: [u32; 4] = [14, 15, 16, 17];
 
-// The last station in the block of a station.
+// Returns the last station in the block of a station.
 fn block_end(size: u32, station: u32) -> u32
     requires some { 1 ≤ station }
     requires within { station ≤ size }
@@ -26,7 +26,7 @@ fn block_end(size: u32, station: u32) -> u32
     size.min(16 * ((station - 1) / 16 + 1))
 }
 
-// Draws which stations behind this one, up to this end, interfere with it on the same channel.
+// Draws which later stations, up to this end, interfere with the station on the same channel.
 fn draw_links(
     alloc: Global,
     words: &mut Lcg64Xsh32,
@@ -58,7 +58,7 @@ fn draw_adjacent(words: &mut Lcg64Xsh32, station: u32, end: u32) -> bool
     false
 }
 
-// Adds the lines of a station and those that it interferes with on the same channel.
+// Appends the lines of a station and those that it interferes with on the same channel.
 fn push_link_lines(text: &mut Vec<u8>, station: u32, links: &[u32]) -> Result<(), NoMemory>
     ensures { OnOk result (text.new.items ≡ text.old.items ++ made_link_lines station links.now) }
 {
@@ -71,7 +71,7 @@ fn push_link_lines(text: &mut Vec<u8>, station: u32, links: &[u32]) -> Result<()
     Ok(())
 }
 
-// Adds the lines of a station and the next one, if they interfere on adjacent channels.
+// Appends the lines of a station and the next one, if they interfere on adjacent channels.
 fn push_adjacent_lines(text: &mut Vec<u8>, station: u32, adjacent: bool) -> Result<(), NoMemory>
     requires { station < 4294967295 }
     ensures { OnOk result (text.new.items ≡ text.old.items ++ made_adjacent_lines station adjacent) }
@@ -85,7 +85,7 @@ fn push_adjacent_lines(text: &mut Vec<u8>, station: u32, adjacent: bool) -> Resu
     Ok(())
 }
 
-// Draws whom a station interferes with, and adds its lines.
+// Draws the interference of a station, and appends its lines.
 fn push_rows_at(
     alloc: Global,
     text: &mut Vec<u8>,
@@ -105,7 +105,7 @@ fn push_rows_at(
     Ok(())
 }
 
-/// The row file, drawn behind the stations.
+/// Returns the row file, drawn after the stations. Fails only if memory runs out.
 pub(crate) fn draw_rows(
     alloc: Global,
     words: &mut Lcg64Xsh32,

@@ -1,4 +1,4 @@
-//! The stations of a made auction: the first draws, two for each.
+//! The stations of a generated auction: the first draws, two for each.
 
 ghost use Rattle.std.specs.Prelude.{◌≡◌, ◌≤◌, ◌+◌, ◌*◌, ◌%◌, IfOk, OnOk, map};
 ghost use Rattle.rand_pcg.specs.Pcg.{pcg32};
@@ -30,7 +30,7 @@ fn draw_value(words: &mut Lcg64Xsh32, volume: u32) -> u64
     u64::from(draw(words, 100 * volume + 1))
 }
 
-/// Draws the stations: for each in order its volume and then its value.
+/// Draws the stations in order, for each its volume and then its value. Fails only if memory runs out.
 pub(crate) fn draw_stations(
     alloc: Global,
     words: &mut Lcg64Xsh32,

@@ -12,7 +12,7 @@ use Rattle.pack_defs.proofs.FitsLaws.{fits-gives, fits-from}
 use Rattle.pack_defs.proofs.Members.{Contains-nil, Contains-filter, Contains-from_filter, is_in-from, list_any-from, list_any-gives}
 use Rattle.target_seek.specs.Tops.{SeekBase, book_at, fits_at}
 
--- what the four tests of a pair at two entries, in one order, say of it
+-- What the four tests of a pair at two entries, in one order, say of the pair.
 all_four : (p : Pair) (x y : ℕ × ℕ) → (eqb p.f x.0 && (eqb p.a x.1 && (eqb p.g y.0 && eqb p.b y.1))) ≡ true → (p.f ≡ x.0) × (p.a ≡ x.1) × (p.g ≡ y.0) × (p.b ≡ y.1)
 all_four p x y h =
     let first = and_parts (eqb p.f x.0) (eqb p.a x.1 && (eqb p.g y.0 && eqb p.b y.1)) h in
@@ -20,14 +20,14 @@ all_four p x y h =
     let third = and_parts (eqb p.g y.0) (eqb p.b y.1) second.1 in
     (eqb-true p.f x.0 first.0, eqb-true p.a x.1 second.0, eqb-true p.g y.0 third.0, eqb-true p.b y.1 third.1)
 
--- the domains have this channel of this station
+-- Whether the domains have this channel for this station.
 abbrev Has : List Domain → ℕ → ℕ → Type 0
 Has domains s c = is_in (channels_in domains s) c ≡ true
 
 has-moved : (domains : List Domain) (s t c d : ℕ) → s ≡ t → c ≡ d → Has domains t d → Has domains s c
 has-moved domains s t c d same_station same_channel has = subst (λ z. Has domains z c) (sym same_station) (subst (λ z. Has domains t z) (sym same_channel) has)
 
--- a pair that joins two entries on channels of the domains stands on these
+-- A pair that joins two entries on channels of the domains is on channels of the domains.
 pair-within : (domains : List Domain) (p : Pair) (x y : ℕ × ℕ) → Has domains x.0 x.1 → Has domains y.0 y.1 → joins p x y ≡ true → is_within domains p ≡ true
 pair-within domains p x y has_x has_y h =
     elim (or_cases (eqb p.f x.0 && (eqb p.a x.1 && (eqb p.g y.0 && eqb p.b y.1))) (eqb p.f y.0 && (eqb p.a y.1 && (eqb p.g x.0 && eqb p.b x.1))) h) [
@@ -39,7 +39,7 @@ pair-within domains p x y has_x has_y h =
           and_from _ _ (has-moved domains p.f y.0 p.a y.1 f a has_y) (has-moved domains p.g x.0 p.b x.1 g b has_x)
     ]
 
--- a channel up to a top is one up to each greater top
+-- A channel up to a top is one up to each greater top.
 filter-grows : (cs : List ℕ) (top greater c : ℕ) → top ≤ greater → Contains (filter (λ d. leb d top) cs) c → Contains (filter (λ d. leb d greater) cs) c
 filter-grows cs top greater c less there =
     let (listed, low) = Contains-from_filter (λ d. leb d top) cs c there in
@@ -47,7 +47,7 @@ filter-grows cs top greater c less there =
     Contains-filter (λ d. leb d greater) cs c listed (le-leb c greater (omega (arith, low_too, less)))
 
 module _ (domains : List Domain) (ids : List ℕ) (pairs : List Pair) where
-  -- a station may use up to a greater top what it may use up to the lesser one
+  -- A station may use up to a greater top what it may use up to the lesser one.
   channel-stays : (top greater s c : ℕ) → top ≤ greater → Contains (channels_in (map (cut_domain top domains) ids) s) c → Contains (channels_in (map (cut_domain greater domains) ids) s) c
   channel-stays top greater s c less there =
       (elim (is_in ids s) as (λ b. is_in ids s ≡ b → Contains (channels_in (map (cut_domain greater domains) ids) s) c) [
@@ -56,7 +56,7 @@ module _ (domains : List Domain) (ids : List ℕ) (pairs : List Pair) where
         | false ↦ λ unknown. absurd (Contains-nil c (subst (λ z. Contains z c) (channels_in-cut_none top domains ids s unknown) there))
       ]) refl
 
-  -- two entries on channels up to a top that no pair forbids up to it are forbidden by none up to another
+  -- Two entries that no pair forbids up to a top are forbidden by none up to another.
   still-apart : (top greater : ℕ) (x y : ℕ × ℕ) → Contains (domain_of (cut_book top ids domains pairs) x.0) x.1 → Contains (domain_of (cut_book top ids domains pairs) y.0) y.1 → is_forbidden (cut_book top ids domains pairs) x y ≡ false → is_forbidden (cut_book greater ids domains pairs) x y ≡ false
   still-apart top greater x y on_x on_y apart = false_from_ne_true _ (λ forbidden.
       let low : List Domain = map (cut_domain top domains) ids in
@@ -67,7 +67,7 @@ module _ (domains : List Domain) (ids : List ℕ) (pairs : List Pair) where
       let also = list_any-from (λ p. joins p x y) (filter (is_within low) pairs) p (Contains-filter (is_within low) pairs p listed within) joined in
       true≢false (sym also ∙ apart))
 
-  -- the map that is clean up to a top is clean up to each greater one
+  -- A map that is clean up to a top is clean up to each greater one.
   fits-more : (set : List ℕ) (top greater : ℕ) → top ≤ greater → Fits (cut_book top ids domains pairs) set → Fits (cut_book greater ids domains pairs) set
   fits-more set top greater less fit = record {
     entries = fit.entries;
@@ -78,7 +78,7 @@ module _ (domains : List Domain) (ids : List ℕ) (pairs : List Pair) where
     };
   }
 
--- the start set fits up to each top above one up to which it fits
+-- The start set fits up to each top above one up to which it fits.
 pub fits-above : (base : SeekBase) (top greater : ℕ) → fits_at base top ≡ true → top ≤ greater → fits_at base greater ≡ true
 fits-above base top greater fit less =
     let set : List ℕ = start_set base.scenario in

@@ -1,4 +1,4 @@
--- What a search by halving knows after each answer, and what it may answer by it.
+-- What a binary search knows after each answer, and which results follow.
 use Rattle.std.proofs.Common.{◌≡◌, ℕ, zero, suc, ◌+◌, ◌-◌, ◌*◌, ◌^◌, ◌<◌, ◌≤◌, Bool, true, false, cond, ltb, Some, None, inl, inr, List, [], ◌∷◌, ◌++◌, length, refl, sym, ap, ◌∙◌, subst, arith, append_assoc, length-append}
 use Rattle.std.proofs.Math.Nat.{pow-succ'}
 use Rattle.std.proofs.lemmas.Bool.{false_from_ne_true, ltb-false, ltb-true, true≢false}
@@ -10,8 +10,8 @@ use Rattle.target_seek.specs.declared.search.Left.{Left}
 use Rattle.target_seek.specs.declared.search.Stage.{Stage}
 use Rattle.target_seek.specs.declared.search.Stage.TheVariants.{Unasked, LastIsUnfit, LastIsOpen, Halving}
 use Rattle.target_seek.specs.declared.search.TopSearch.{TopSearch}
-use Rattle.target_seek.specs.declared.seek.Sought.{Sought}
-use Rattle.target_seek.specs.declared.seek.Sought.TheVariants.{NoneFits, LastOpen, Least, AboveOpen}
+use Rattle.target_seek.specs.declared.sought.Sought.{Sought}
+use Rattle.target_seek.specs.declared.sought.Sought.TheVariants.{NoneFits, LastOpen, Least, AboveOpen}
 use Rattle.target_seek.specs.declared.top_test.TopAnswer.{TopAnswer}
 use Rattle.target_seek.specs.declared.top_test.TopAnswer.TheVariants.{Fits, Unfit, Open}
 use Rattle.target_seek.specs.Tops.{AreTrue, AskedTop, IsSought, IsTrueAt, IsTruth, SeekBase, WasTold, fits_at}
@@ -19,7 +19,7 @@ use Rattle.target_seek.specs.Halving.{all_left, found_at, left_after, middle_of,
 use Rattle.target_seek.specs.Searching.{IsBelow, IsHalving, IsSearching, IsStage, IsUnasked, Leads}
 use Rattle.target_seek.proofs.AboveLemmas.{fits-above}
 
--- between two questions: what was asked behind what was asked before, and how far the search has come by it
+-- Whether the search between two tests has come so far by the answers since it began.
 pub record IsMidway (base now_base : SeekBase) (before now : List AskedTop) (first last : ℕ) (search : TopSearch) : Type 0 where
   pub same_base : now_base ≡ base
   pub more : List AskedTop
@@ -27,7 +27,7 @@ pub record IsMidway (base now_base : SeekBase) (before now : List AskedTop) (fir
   pub are_true : AreTrue base more
   pub searching : IsSearching first last more search
 
--- ---- one answer more
+-- ---- one more answer
 
 pub true-more : (base : SeekBase) (asked : List AskedTop) (top : ℕ) (answer : TopAnswer) → AreTrue base asked → IsTrueAt base top answer → AreTrue base (asked ++ record { top = top; answer = answer } ∷ [])
 true-more base asked top answer are_true is_true = λ x there. elim (Contains-push_cases asked _ x there) [
@@ -40,9 +40,9 @@ below-more first low asked x below.Nothing is = is
 below-more first low asked x below.Unfit is = (is.0, Contains-append_left _ _ _ is.1)
 below-more first low asked x below.Open is = (is.0, Contains-append_left _ _ _ is.1)
 
--- ---- the start, each way on, and the end
+-- ---- the start, each case of an answer, and the end
 
--- the last one fits
+-- The last top fits.
 halving-starts : (first last : ℕ) → 14 ≤ first → first ≤ last → last ≤ 51 → IsHalving first last (record { top = last; answer = Fits } ∷ []) (all_left first last)
 halving-starts first last low ordered high = record {
   ordered = ordered;
@@ -55,13 +55,13 @@ halving-starts first last low ordered high = record {
   narrow = omega (arith, low, high);
 }
 
--- half of what is below twice a number is below it
+-- Half of a number below twice another is below that one.
 halved : (n : ℕ) → (w v : ℕ) → 0 < w → w < 2 ^ n → 2 * v ≤ w → (m : ℕ) × (suc m ≡ n) × (v < 2 ^ m)
 halved zero w v some few half = absurd (omega (arith, some, few))
 halved (suc m) w v some few half = let twice = pow-succ' 2 m in (m, refl, omega (arith, twice, few, half))
 
 module _ (first last : ℕ) (asked : List AskedTop) (left : Left) (so_far : IsHalving first last asked left) (open_yet : left.low < left.high) where
-  -- the tops that are left, and the answer
+  -- The tops that are left, and the answer.
   next : (top : ℕ) (answer : TopAnswer) (after : Left) → after.low ≤ after.high → first ≤ after.low → after.high ≤ last → 2 * (after.high - after.low) ≤ left.high - left.low → WasTold (asked ++ record { top = top; answer = answer } ∷ []) after.high Fits → IsBelow first (asked ++ record { top = top; answer = answer } ∷ []) after.low after.below → IsHalving first last (asked ++ record { top = top; answer = answer } ∷ []) after
   next top answer after ordered least most half fits below =
       let new : AskedTop = record { top = top; answer = answer } in
@@ -79,7 +79,7 @@ module _ (first last : ℕ) (asked : List AskedTop) (left : Left) (so_far : IsHa
         narrow = narrow;
       }
 
-  -- what was told of the middle is told of the one below those above it
+  -- The answer about the middle is the answer about the top below those above it.
   told-below : (answer : TopAnswer) → WasTold (asked ++ record { top = middle_of left; answer = answer } ∷ []) (middle_of left + 1 - 1) answer
   told-below answer =
       let same_top : middle_of left ≡ middle_of left + 1 - 1 = omega arith in
@@ -102,7 +102,7 @@ module _ (first last : ℕ) (asked : List AskedTop) (left : Left) (so_far : IsHa
       (omega (arith, open_yet)) (omega (arith, least)) so_far.most (omega (arith, open_yet))
       (Contains-append_left asked _ _ so_far.fits) (omega (arith, least), told-below Open)
 
--- a choice by a test gives something only where the test holds, and nothing only where it doesn't
+-- A choice by a test is something exactly if the test holds.
 chosen-some : (b : Bool) (x y : ℕ) → cond b (Some x) None ≡ Some y → (b ≡ true) × (x ≡ y)
 chosen-some true x y is = (refl, cc)
 chosen-some false x y is = absurd (cc)
@@ -111,7 +111,7 @@ chosen-none : (b : Bool) (x : ℕ) → cond b (Some x) None ≡ None → b ≡ f
 chosen-none true x is = absurd (cc)
 chosen-none false x is = refl
 
--- the answer about the last one
+-- The answer about the last top.
 first-told : (first last lowest highest : ℕ) (asked : List AskedTop) (answer : TopAnswer) → IsUnasked first last asked lowest highest → IsStage first last (record { top = last; answer = answer } ∷ []) (stage_after (Unasked lowest highest) answer)
 first-told first last lowest highest asked Fits is =
     subst (λ z. IsHalving first last (record { top = last; answer = Fits } ∷ []) (all_left z highest)) (sym is.from_first)
@@ -119,7 +119,7 @@ first-told first last lowest highest asked Fits is =
 first-told first last lowest highest asked Unfit is = refl
 first-told first last lowest highest asked Open is = refl
 
--- the answer about the top that is asked about
+-- The answer about the top that is tested.
 pub stage-goes_on : (first last : ℕ) (asked : List AskedTop) (stage : Stage) (top : ℕ) (answer : TopAnswer) → IsStage first last asked stage → next_at stage ≡ Some top → IsStage first last (asked ++ record { top = top; answer = answer } ∷ []) (stage_after stage answer)
 stage-goes_on first last asked (Unasked lowest highest) top answer is next =
     let last_asked : last ≡ top = let to_last = is.to_last in cc in
@@ -131,33 +131,33 @@ stage-goes_on first last asked (Halving left) top answer is next =
     let (yet, here) = chosen-some (ltb left.low left.high) (middle_of left) top next in
     subst (λ z. IsHalving first last (asked ++ record { top = z; answer = answer } ∷ []) (left_after left (middle_of left) answer)) here (halving-goes_on first last asked left is (ltb-true left.low left.high yet) answer)
 
--- it goes by halving as it did, where the answer is about the top that is asked about
+-- The search stays a binary search, if the answer is about the top that is tested.
 pub leads-more : (from : Stage) (xs : List AskedTop) (to : Stage) (top : ℕ) (answer : TopAnswer) → Leads from xs to → next_at to ≡ Some top → Leads from (xs ++ record { top = top; answer = answer } ∷ []) (stage_after to answer)
 leads-more from [] to top answer same next = (ap (λ s. next_at s) (sym same) ∙ next, ap (λ s. stage_after s answer) same)
 leads-more from (x ∷ xs) to top answer is next = (is.0, leads-more (stage_after from x.answer) xs to top answer is.1 next)
 
--- where one top is left, that is what was sought
+-- If one top is left, it is the result.
 sought-below : (first last : ℕ) (asked : List AskedTop) (low high : ℕ) (b : Below) → low ≡ high → first ≤ low → high ≤ last → WasTold asked high Fits → IsBelow first asked low b → IsSought first last asked (found_at high b)
 sought-below first last asked low high below.Nothing same least most fits below = (omega (arith, same, least), most, fits, inl (sym same ∙ below))
 sought-below first last asked low high below.Unfit same least most fits below = (omega (arith, same, least), most, fits, inr (subst (λ z. WasTold asked (z - 1) Unfit) same below.1))
 sought-below first last asked low high below.Open same least most fits below = let after = below.0 in (omega (arith, same, after), most, fits, subst (λ z. WasTold asked (z - 1) Open) same below.1)
 
--- what was told of the last one
+-- The answer about the last top.
 pub unfit-told : (last : ℕ) (asked : List AskedTop) → asked ≡ record { top = last; answer = Unfit } ∷ [] → WasTold asked last Unfit
 unfit-told last asked is = subst (λ z. WasTold z last Unfit) (sym is) (Contains-here _ [])
 
--- what is found where no top is asked about next
+-- The result, if no top is tested next.
 pub halving-ends : (first last : ℕ) (asked : List AskedTop) (left : Left) → IsHalving first last asked left → next_at (Halving left) ≡ None → IsSought first last asked (found_at left.high left.below) × (length asked ≤ 7)
 halving-ends first last asked left is over =
     let closed = ltb-false left.low left.high (chosen-none (ltb left.low left.high) (middle_of left) over) in
     let ordered = is.ordered in let counted = is.counted in
     (sought-below first last asked left.low left.high left.below (omega (arith, ordered, closed)) is.least is.most is.fits is.below, omega (arith, counted))
 
--- below a top at which the set doesn't fit it fits at none
+-- Below a top at which the set does not fit, it fits at none.
 unfit-below : (base : SeekBase) (lesser top : ℕ) → fits_at base top ≡ false → lesser ≤ top → fits_at base lesser ≡ false
 unfit-below base lesser top unfit less = false_from_ne_true _ (λ fit. true≢false (sym (fits-above base lesser top fit less) ∙ unfit))
 
--- what was sought among true answers is true
+-- A result that follows from true answers is true.
 pub truth-of : (base : SeekBase) (first last : ℕ) (asked : List AskedTop) (sought : Sought) → AreTrue base asked → IsSought first last asked sought → IsTruth base first last sought
 truth-of base first last asked NoneFits are_true is = λ top less. unfit-below base top last (are_true _ is) less
 truth-of base first last asked LastOpen are_true is = tt
@@ -170,7 +170,7 @@ truth-of base first last asked (Least top) are_true is = (
 )
 truth-of base first last asked (AboveOpen top) are_true is = are_true _ is.2
 
--- one question more between two
+-- One more test between two states.
 pub midway-goes_on : (base now_base then_base : SeekBase) (before now then : List AskedTop) (first last : ℕ) (search after : TopSearch) (top : ℕ) (answer : TopAnswer) (mid : IsMidway base now_base before now first last search) → then_base ≡ now_base → then ≡ now ++ record { top = top; answer = answer } ∷ [] → IsTrueAt now_base top answer → IsSearching first last (mid.more ++ record { top = top; answer = answer } ∷ []) after → IsMidway base then_base before then first last after
 midway-goes_on base now_base then_base before now then first last search after top answer mid same asked is_true searching = record {
   same_base = same ∙ mid.same_base;

@@ -1,9 +1,9 @@
--- A small auction: one station, which may use one channel alone.
+-- A small auction: one station, which may use only one channel.
 use Rattle.std.specs.Prelude.{ℕ, [], ◌∷◌, None}
 use Rattle.pack_defs.specs.declared.fall.Fall.TheVariants.{Listed}
 use Rattle.target_seek.specs.Tops.{SeekBase}
 
--- a station without a value, which so starts on air, and may use this channel
+-- A station without a value, which therefore starts on air, and may use only this channel.
 unfoldable pub one_station : ℕ → SeekBase
 one_station channel = record {
   scenario = record {

@@ -1,4 +1,4 @@
--- A search for the least top by halving: what it asks about, and how far it is after each answer.
+-- The binary search for the least top: which top it tests, and its state after each answer.
 use Rattle.std.specs.Prelude.{ℕ, ◌+◌, ◌-◌, ◌/◌, Option, Some, None, if◌then◌else◌, ltb}
 use Rattle.target_seek.specs.declared.search.Below.{Below}
 use Rattle.target_seek.specs.declared.search.Below.TheVariants as below
@@ -6,43 +6,43 @@ use Rattle.target_seek.specs.declared.search.Left.{Left}
 use Rattle.target_seek.specs.declared.search.Stage.{Stage}
 use Rattle.target_seek.specs.declared.search.Stage.TheVariants.{Unasked, LastIsUnfit, LastIsOpen, Halving}
 use Rattle.target_seek.specs.declared.search.TopSearch.{TopSearch}
-use Rattle.target_seek.specs.declared.seek.Sought.{Sought}
-use Rattle.target_seek.specs.declared.seek.Sought.TheVariants.{Least, AboveOpen}
+use Rattle.target_seek.specs.declared.sought.Sought.{Sought}
+use Rattle.target_seek.specs.declared.sought.Sought.TheVariants.{Least, AboveOpen}
 use Rattle.target_seek.specs.declared.top_test.TopAnswer.{TopAnswer}
 use Rattle.target_seek.specs.declared.top_test.TopAnswer.TheVariants.{Fits, Unfit, Open}
 
--- all tops from the first to the last
+-- All tops from the first to the last.
 abbrev pub all_left : ℕ → ℕ → Left
 all_left first last = record { low = first; high = last; below = below.Nothing }
 
--- the top in the middle of those that are left, the lower one of two
+-- The top in the middle of those that are left, the lower one of two.
 abbrev pub middle_of : Left → ℕ
 middle_of left = left.low + (left.high - left.low) / 2
 
--- those that are left after this answer about one of them
+-- The tops that are left after this answer about one of them.
 abbrev pub left_after : Left → ℕ → TopAnswer → Left
 left_after left top Fits = record { low = left.low; high = top; below = left.below }
 left_after left top Unfit = record { low = top + 1; high = left.high; below = below.Unfit }
 left_after left top Open = record { low = top + 1; high = left.high; below = below.Open }
 
--- what is found at a top, by what was told of the one below it
+-- The result at a top, given the answer about the top below it.
 abbrev pub found_at : ℕ → Below → Sought
 found_at top below.Nothing = Least top
 found_at top below.Unfit = Least top
 found_at top below.Open = AboveOpen top
 
--- the top that is asked about next: the last one first, then the one in the middle while more than one is left
+-- The top to test next: the last one first, then the middle one while more than one is left.
 abbrev pub next_at : Stage → Option ℕ
 next_at (Unasked first last) = Some last
 next_at LastIsUnfit = None
 next_at LastIsOpen = None
 next_at (Halving left) = (if ltb left.low left.high then Some (middle_of left) else None)
 
--- the top that a search asks about next; none once it is over
+-- The top that a search tests next, if it is not over.
 abbrev pub next_of : TopSearch → Option ℕ
 next_of search = next_at search.stage
 
--- how far a search is after this answer about the top that it asked about; one that is over stays so
+-- The stage after this answer about the top that was tested; a search that is over stays so.
 abbrev pub stage_after : Stage → TopAnswer → Stage
 stage_after (Unasked first last) Fits = Halving (all_left first last)
 stage_after (Unasked first last) Unfit = LastIsUnfit
@@ -51,13 +51,14 @@ stage_after LastIsUnfit answer = LastIsUnfit
 stage_after LastIsOpen answer = LastIsOpen
 stage_after (Halving left) answer = Halving (left_after left (middle_of left) answer)
 
--- a number that falls with each answer: how many tops may yet turn out not to be the least, and one more before the first answer
+-- A number that falls with each answer: how many tops may turn out not to be the least, and one more before the first
+-- answer.
 abbrev pub left_at : Stage → ℕ
 left_at (Unasked first last) = last - first + 1
 left_at LastIsUnfit = 0
 left_at LastIsOpen = 0
 left_at (Halving left) = left.high - left.low
 
--- the same of a search
+-- The number of a search that falls with each answer.
 abbrev pub tops_left : TopSearch → ℕ
 tops_left search = left_at search.stage

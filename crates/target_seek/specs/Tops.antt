@@ -1,6 +1,6 @@
--- Up to which top channel the stations that start on air fit, and what a search for the least such top may answer. A clearing
--- target that is lowered until those who stay on air no longer fit is of the US broadcast incentive auction; to seek the
--- least one by halving is this project's.
+-- The top channels up to which the stations that start on air fit, and the results that a search for the least may
+-- have. The US incentive auction had a clearing target at which the stations staying on air fit. The binary search
+-- for the least top is this project's own.
 use Rattle.std.specs.Prelude.{ℕ, ◌≡◌, ◌≤◌, ◌<◌, ◌⊎◌, ◌-◌, Bool, List, Contains, IsFalse, IsTrue, ⊤}
 use Rattle.pack_defs.specs.declared.domain.Domain.{Domain}
 use Rattle.pack_defs.specs.declared.pair.Pair.{Pair}
@@ -8,48 +8,48 @@ use Rattle.pack_defs.specs.declared.scenario.Scenario.{Scenario}
 use Rattle.pack_defs.specs.Book.{BookView, cut_book}
 use Rattle.pack_defs.specs.Packing.{fits}
 use Rattle.pack_defs.specs.Prices.{start_set}
-use Rattle.target_seek.specs.declared.seek.Sought.{Sought}
-use Rattle.target_seek.specs.declared.seek.Sought.TheVariants.{NoneFits, LastOpen, Least, AboveOpen}
+use Rattle.target_seek.specs.declared.sought.Sought.{Sought}
+use Rattle.target_seek.specs.declared.sought.Sought.TheVariants.{NoneFits, LastOpen, Least, AboveOpen}
 use Rattle.target_seek.specs.declared.top_test.TopAnswer.{TopAnswer}
 use Rattle.target_seek.specs.declared.top_test.TopAnswer.TheVariants.{Fits, Unfit, Open}
 
--- all that the start set and its fitting depend on, beside the top channel: the scenario, and the domains and the pairs that
--- the constraint files tell, before any top cuts them
+-- All that the start set and its fitting depend on, except the top channel: the scenario, and the domains and pairs
+-- of the constraint files before a top cuts them.
 pub record SeekBase : Type 0 where
   pub scenario : Scenario
   pub domains : List Domain
   pub pairs : List Pair
 
--- the book of the start set up to this top channel
+-- The book of the start set up to this top channel.
 abbrev pub book_at : SeekBase → ℕ → BookView
 book_at base top = cut_book top (start_set base.scenario) base.domains base.pairs
 
--- whether the start set fits up to this top channel
+-- Whether the start set fits up to this top channel.
 abbrev pub fits_at : SeekBase → ℕ → Bool
 fits_at base top = fits (book_at base top) (start_set base.scenario)
 
--- a top channel that was asked about, and what was answered
+-- A top channel that was tested, and the answer.
 pub record AskedTop : Type 0 where
   pub top : ℕ
   pub answer : TopAnswer
 
--- the answer is true; of an open one nothing is said
+-- Whether the answer is true; an open one claims nothing.
 abbrev pub IsTrueAt : SeekBase → ℕ → TopAnswer → Type 0
 IsTrueAt base top Fits = IsTrue (fits_at base top)
 IsTrueAt base top Unfit = IsFalse (fits_at base top)
 IsTrueAt base top Open = ⊤
 
--- each answer that was told is true
+-- Whether each answer is true.
 abbrev pub AreTrue : SeekBase → List AskedTop → Type 0
 AreTrue base asked = (x : AskedTop) → Contains asked x → IsTrueAt base x.top x.answer
 
--- this top was asked about, and this was answered
+-- Whether this top was tested with this answer.
 abbrev pub WasTold : List AskedTop → ℕ → TopAnswer → Type 0
 WasTold asked top answer = Contains asked (record { top = top; answer = answer })
 
--- What brings a search from the first to the last of these tops to its answer, among what it asked and was told: at the last
--- one the set doesn't fit, or that is open; or it fits at a top, and that is the first one, or one below it doesn't fit; or it
--- fits at a top, and one below that is open.
+-- Whether the answers justify this result of a search from the first to the last of these tops. NoneFits: the last is
+-- unfit. LastOpen: the last is open. Least: the top fits, and is the first or has an unfit one just below. AboveOpen:
+-- the top fits and has an open one just below.
 abbrev pub IsSought : ℕ → ℕ → List AskedTop → Sought → Type 0
 IsSought first last asked NoneFits = WasTold asked last Unfit
 IsSought first last asked LastOpen = WasTold asked last Open
@@ -58,8 +58,8 @@ IsSought first last asked (Least top) =
 IsSought first last asked (AboveOpen top) =
     (first < top) × (top ≤ last) × WasTold asked top Fits × WasTold asked (top - 1) Open
 
--- What the answer says of the start set: it fits at no top up to the last; nothing; it fits at this top, and at none from the
--- first on below it; it fits at this top.
+-- Whether the result is true of the start set. NoneFits: it fits at no top up to the last. LastOpen: nothing is
+-- claimed. Least: it fits at this top and at no lesser one from the first on. AboveOpen: it fits at this top.
 abbrev pub IsTruth : SeekBase → ℕ → ℕ → Sought → Type 0
 IsTruth base first last NoneFits = (top : ℕ) → top ≤ last → IsFalse (fits_at base top)
 IsTruth base first last LastOpen = ⊤

@@ -1,10 +1,18 @@
-//! The least top channel up to which the stations that start on air fit, sought by halving.
+//! Finds the least top channel up to which the stations that start on air fit, by binary search.
 //!
-//! It may call `pack_defs` alone, and runs no auction: `commands` drives it and says what each top came to. Read `seek` first,
-//! then `search` and `top_test`; `laws` says why halving finds the least.
+//! The crate uses `pack_defs` only, and runs no auction: `commands` drives the search and tests each top channel.
+//!
+//! Modules, in reading order:
+//!
+//! - `seek`: the search with a test given as a trait.
+//! - `search`: the search that its caller drives.
+//! - `sought`: what a search found.
+//! - `top_test`: the test of a top channel.
+//! - `laws`: why a binary search is right.
 #![tactic(auto)]
 
 pub mod laws;
 pub mod search;
 pub mod seek;
+pub mod sought;
 pub mod top_test;

@@ -1,4 +1,5 @@
-//! A search for the least top channel, by halving, which a caller drives.
+//! The binary search for the least top channel, as a value that the caller drives. Seven tests suffice, since 14 to
+//! 51 are 38 channels.
 
 ghost use Rattle.std.specs.Prelude.{◌≡◌, ◌≤◌, ◌<◌, ◌+◌, ◌++◌, ◌∷◌, ℕ, [], IsSome, List, MatchOption, None, Some, length, ⊤};
 ghost use Rattle.pack_defs.specs.declared.limits.TheConstants.{GREATEST_CHANNEL, LEAST_CHANNEL};
@@ -6,20 +7,20 @@ ghost use Rattle.target_seek.specs.Halving.{all_left, found_at, left_after, midd
 ghost use Rattle.target_seek.specs.Searching.{IsSearching};
 ghost use Rattle.target_seek.specs.Tops.{AreTrue, AskedTop, IsSought, IsTruth, SeekBase};
 
-use crate::seek::Sought;
+use crate::sought::Sought;
 use crate::top_test::TopAnswer;
 
-/// A search for the least top channel up to which the start set fits, which its caller drives: while a top is `next`, the
-/// caller finds out about it and tells the answer; then the search has `found` something. The last top is asked about first,
-/// and then the one in the middle of those that are left, at most seven in all. A top whose test is left open counts as one at
-/// which the set doesn't fit.
+/// A search for the least top channel up to which the start set fits. While `next` returns a top, the caller tests it
+/// and gives the answer to `told`; then `found` returns the result. The last top is tested first, then the middle of
+/// the tops that are left, at most seven in all. A top with an undecided test counts as one at which the set does not
+/// fit.
 #[derive(Clone, Copy)]
 pub struct TopSearch {
     stage: Stage,
 }
 
 impl TopSearch {
-    /// A search from the first to the last of these tops, of which nothing was asked yet.
+    /// Returns a search from `first` to `last`, before any test.
     pub fn new(first: u8, last: u8) -> TopSearch
         requires least { LEAST_CHANNEL ≤ first }
         requires ordered { first ≤ last }
@@ -31,7 +32,7 @@ impl TopSearch {
         }
     }
 
-    /// The top to ask about next; none once the search is over.
+    /// Returns the top to test next, or `None` once the search is over.
     pub fn next(&self) -> Option<u8>
         ensures next { result ≡ next_of self.now }
         ensures within { (first last : ℕ) (asked : List AskedTop) → IsSearching first last asked self.now →
@@ -44,7 +45,7 @@ impl TopSearch {
         }
     }
 
-    /// The search once this was told of the top that it asks about.
+    /// Returns the search after this answer about its next top.
     pub fn told(self, answer: TopAnswer) -> TopSearch
         requires { IsSome (next_of self) }
         ensures searching { (first last : ℕ) (asked : List AskedTop) (top : ℕ) → IsSearching first last asked self → next_of self ≡ Some top →
@@ -56,7 +57,7 @@ impl TopSearch {
         }
     }
 
-    /// What was found, once the search is over.
+    /// Returns the result, once the search is over.
     pub fn found(self) -> Sought
         requires { next_of self ≡ None }
         ensures sought { (first last : ℕ) (asked : List AskedTop) → IsSearching first last asked self →
@@ -76,18 +77,18 @@ impl TopSearch {
 // How far a search has come.
 #[derive(Clone, Copy)]
 enum Stage {
-    // Nothing was asked yet of these tops.
+    // No top was tested yet.
     Unasked { first: u8, last: u8 },
-    // At the last top the start set doesn't fit.
+    // The start set does not fit up to the last top.
     LastIsUnfit,
-    // The test of the last top was left open.
+    // The test of the last top is undecided.
     LastIsOpen,
-    // It fits at the last top, and these are left.
+    // The set fits up to the last top, and these tops are left.
     Halving(Left),
 }
 
 impl Stage {
-    // How far it has come after this answer.
+    // Returns the stage after this answer.
     fn after(self, answer: TopAnswer) -> Stage
         requires { IsSome (next_at self) }
         ensures { result ≡ stage_after self answer }
@@ -104,16 +105,16 @@ impl Stage {
     }
 }
 
-// What was told of the top below the lowest one that is left.
+// The answer about the top below the lowest one that is left.
 #[derive(Clone, Copy)]
 enum Below {
-    // There is none: the lowest one that is left is the first of all.
+    // The lowest top that is left is the first of all.
     Nothing,
     Unfit,
     Open,
 }
 
-// The tops that are left. At the highest of them the start set fits; no top up to which it fits is known below the lowest.
+// The tops that are left. The start set fits at the highest, and is not known to fit below the lowest.
 #[derive(Clone, Copy)]
 struct Left {
     low: u8,
@@ -122,7 +123,7 @@ struct Left {
 }
 
 impl Left {
-    // All tops from the first to the last.
+    // Returns all tops from the first to the last.
     fn all(first: u8, last: u8) -> Left
         ensures { result ≡ all_left first last }
     {
@@ -133,7 +134,7 @@ impl Left {
         }
     }
 
-    // The top in the middle, the lower one of two.
+    // Returns the top in the middle, the lower one of two.
     fn middle(self) -> u8
         requires { self.low < self.high }
         ensures { result ≡ middle_of self }
@@ -141,7 +142,7 @@ impl Left {
         self.low + (self.high - self.low) / 2
     }
 
-    // The tops that are left after this answer about one of them.
+    // Returns the tops that are left after this answer about one of them.
     fn after(self, top: u8, answer: TopAnswer) -> Left
         requires { top < self.high }
         ensures { result ≡ left_after self top answer }
@@ -153,7 +154,7 @@ impl Left {
         }
     }
 
-    // The tops above this one, of which this was told.
+    // Returns the tops above this one, for which `below` is the answer.
     fn above(self, top: u8, below: Below) -> Left
         requires { top < self.high }
         ensures { result ≡ record { low = top + 1; high = self.high; below = below } }
@@ -165,7 +166,7 @@ impl Left {
         }
     }
 
-    // What is found where one top is left.
+    // Returns the result, if one top is left.
     fn sought(self) -> Sought
         ensures { result ≡ found_at self.high self.below }
     {

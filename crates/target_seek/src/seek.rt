@@ -1,4 +1,4 @@
-//! The search for the least top channel.
+//! The search for the least top channel, which runs the tests itself.
 
 ghost use Rattle.std.specs.Prelude.{◌≡◌, ◌≤◌, IfOk};
 ghost use Rattle.pack_defs.specs.declared.limits.TheConstants.{GREATEST_CHANNEL, LEAST_CHANNEL};
@@ -6,26 +6,18 @@ ghost use Rattle.target_seek.specs.Searching.{HasSearched};
 ghost use Rattle.target_seek.specs.Tops.{IsTruth};
 
 use crate::search::TopSearch;
+use crate::sought::Sought;
 use crate::top_test::TopTest;
 use std::alloc::AllocError as NoMemory;
 
-/// What a search for the least top channel found.
-#[derive(Clone, Copy, Debug, PartialEq, Eq)]
-pub enum Sought {
-    /// The start set doesn't fit up to the last top, and so up to no lesser one.
-    NoneFits,
-    /// Whether it fits up to the last top was not found out.
-    LastOpen,
-    /// It fits up to this top, and up to none of the lesser ones from the first on.
-    Least { top: u8 },
-    /// It fits up to this top; whether it fits up to the one below was not found out.
-    AboveOpen { top: u8 },
-}
-
-/// The least top channel from the first to the last of these up to which the start set fits, found by halving: the last one is
-/// asked about first, and then the one in the middle of those that are left, at most seven in all. A top whose test is left
-/// open counts as one at which the set doesn't fit. The only error is want of memory, which a test met; what was asked until
-/// then is the beginning of such a search, which can be begun again.
+/// Returns the least top channel from `first` to `last` up to which the start set fits. A binary search: the last top
+/// is tested first, then the middle of the tops that are left, at most seven in all. A top with an undecided test
+/// counts as one at which the set does not fit.
+///
+/// # Errors
+///
+/// Fails only if memory runs out in a test. The tests until then are the beginning of such a search, which may be
+/// started again.
 pub fn seek_top<T: TopTest>(first: u8, last: u8, test: &mut T) -> Result<Sought, NoMemory>
     requires least { LEAST_CHANNEL ≤ first }
     requires ordered { first ≤ last }

@@ -1,4 +1,4 @@
-//! What is asked of a top channel.
+//! The test of a top channel.
 
 ghost use Rattle.std.specs.Prelude.{◌≡◌, ◌≤◌, ◌++◌, ◌∷◌, [], IfErr, IfOk};
 ghost use Rattle.pack_defs.specs.declared.limits.TheConstants.{GREATEST_CHANNEL, LEAST_CHANNEL};
@@ -6,30 +6,33 @@ ghost use Rattle.target_seek.specs.Tops.{IsTrueAt};
 
 use std::alloc::AllocError as NoMemory;
 
-/// What a test of a top channel says of the start set.
+/// The answer of a test: whether the start set fits up to the top channel.
 #[derive(Clone, Copy, Debug, PartialEq, Eq)]
 pub enum TopAnswer {
-    /// It fits up to this top channel.
+    /// The set fits.
     Fits,
-    /// It does not.
+    /// The set does not fit.
     Unfit,
-    /// It was not found out.
+    /// The test is undecided.
     Open,
 }
 
-/// Tells of a top channel whether the start set fits up to it.
+/// Tests whether the start set fits up to a top channel.
 pub trait TopTest {
     ghost use Rattle.std.specs.Prelude.{List};
     ghost use Rattle.target_seek.specs.Tops.{AskedTop, SeekBase};
 
-    /// All that the start set and its fitting depend on, beside the top channel.
+    /// All that the start set and its fitting depend on, except the top channel.
     ghost base: { Self → SeekBase };
 
-    /// The tops that were asked about so far, in order, with what was answered.
+    /// The tops that were tested so far, in order, with the answers.
     ghost asked: { Self → List AskedTop };
 
-    /// Whether the start set fits up to this top channel. `Fits` and `Unfit` are true. After an error, which is want of memory,
-    /// it can be asked again.
+    /// Tests whether the start set fits up to this top channel. The answers `Fits` and `Unfit` are true.
+    ///
+    /// # Errors
+    ///
+    /// Fails only if memory runs out, and then the test may be repeated.
     fn ask(&mut self, top: u8) -> Result<TopAnswer, NoMemory>
         requires least { LEAST_CHANNEL ≤ top }
         requires most { top ≤ GREATEST_CHANNEL }

@@ -1,4 +1,4 @@
-//! Who is on air, who is frozen and who is still asked, as the clock rule tells it.
+//! The state of the plain clock: who is on air, who is frozen, and who is still asked.
 
 ghost use Rattle.std.specs.Prelude.{◌≡◌, ◌==◌, [], IfOk};
 ghost use Rattle.pack_defs.specs.ClockRule.{goes_on_air, is_active, is_frozen, is_on_air};
@@ -23,7 +23,7 @@ impl Model for Aired {
 }
 
 impl Aired {
-    // Whether it is of this station.
+    // Checks whether the entry is of this station.
     fn is_of(&self, station: u32) -> bool
         ensures { result ≡ (self.now.station == station) }
     {
@@ -31,7 +31,7 @@ impl Aired {
     }
 }
 
-/// A station that is bought, the round in which it was frozen, and what it is paid, in cents.
+/// A bought station, the round in which it was frozen, and its payment in cents.
 #[derive(Debug, Drop)]
 pub(crate) struct Bought {
     station: u32,
@@ -48,7 +48,7 @@ impl Model for Bought {
 }
 
 impl Bought {
-    // Whether it is of this station.
+    // Checks whether the entry is of this station.
     fn is_of(&self, station: u32) -> bool
         ensures { result ≡ (self.now.station == station) }
     {
@@ -73,7 +73,7 @@ impl Model for PlainClock {
 }
 
 impl PlainClock {
-    /// The clock before its first round, with these stations on air and these still asked.
+    /// Returns the clock before its first round, with these stations on air and these active.
     pub(crate) fn open(alloc: Global, on_air: Vec<Aired>, active: Vec<u32>) -> PlainClock
         ensures { result ≡ record { on_air = on_air.items; frozen = []; active = active.items } }
     {
@@ -84,28 +84,31 @@ impl PlainClock {
         }
     }
 
-    /// Whether the station is still asked.
+    /// Checks whether the station is still asked.
     pub(crate) fn is_active(&self, station: u32) -> bool
         ensures { result ≡ is_active self.now station }
     {
         self.active.iter().any(|x| *x == station)
     }
 
-    /// Whether the station is on air.
+    /// Checks whether the station is on air.
     pub(crate) fn is_on_air(&self, station: u32) -> bool
         ensures { result ≡ is_on_air self.now station }
     {
         self.on_air.iter().any(|x| x.is_of(station))
     }
 
-    /// Whether the station is frozen.
+    /// Checks whether the station is frozen.
     pub(crate) fn is_frozen(&self, station: u32) -> bool
         ensures { result ≡ is_frozen self.now station }
     {
         self.frozen.iter().any(|x| x.is_of(station))
     }
 
-    /// The station goes on air in this round. The only error is want of memory.
+    /// Puts the station on air in this round.
+    ///
+    /// # Errors
+    /// Fails only if memory runs out.
     pub(crate) fn air(&mut self, station: u32, round: usize) -> Result<(), NoMemory>
         ensures { IfOk result (λ _. self.new ≡ goes_on_air self.old (record { round = round; station = station })) }
     {
@@ -114,7 +117,10 @@ impl PlainClock {
         Ok(())
     }
 
-    /// The station is frozen in this round, at this price, in cents. The only error is want of memory.
+    /// Freezes the station in this round, at this price in cents.
+    ///
+    /// # Errors
+    /// Fails only if memory runs out.
     pub(crate) fn freeze(&mut self, station: u32, round: usize, price: u64) -> Result<(), NoMemory>
         ensures { IfOk result (λ _. self.new ≡ freezes_at self.old (record { station = station; round = round; price = price })) }
     {

@@ -1,8 +1,11 @@
-//! What a clock auction pays: whether a station would still be bought with another value, by the plain clock rule; and
-//! the law that each station that is bought is paid the greatest such value.
+//! What a clock auction pays. The crate decides by the plain clock rule whether a station would still be bought with another value. Its
+//! law says that each bought station is paid the greatest value with which it is bought.
 //!
-//! It may call `offer_sched` and `plain_pack`. Tests alone call it: no auction and no check does. Read `wins` first, then `rule`,
-//! with `turns` and `clock`; the laws are in `paid` and `plain`.
+//! The crate may call `offer_sched` and `plain_pack`. Only tests call it: no auction and no check does. In reading order:
+//!
+//! - `wins`: whether a station would be bought with another value.
+//! - `rule`, `turns`, `clock`: the plain clock rule, its order of tests, and its state.
+//! - `paid`, `plain`: laws, which no code calls.
 #![tactic(auto)]
 
 mod clock;

@@ -1,4 +1,4 @@
-//! Each station that is bought is paid its threshold price.
+//! The law that each bought station is paid its threshold price.
 
 ghost use Rattle.std.specs.Prelude.{◌≡◌, [], Contains, None};
 ghost use Rattle.pack_defs.specs.Scenario.{StationsAscend};
@@ -9,9 +9,9 @@ use pack_defs::book::Book;
 use pack_defs::order::Order;
 use pack_defs::scenario::Scenario;
 
-/// Where the values stand for the owners and the clock rule freezes this station, every test being decided and the
-/// tests of a round in this order, its price is the greatest admissible value with which it would have been bought.
-/// (For clock auctions a theorem of Milgrom and Segal.)
+/// The price of a frozen station is the greatest admissible value with which the station would have been bought. This holds in an
+/// auction by values with every test decided and the tests of a round in this order. For clock auctions it is a theorem of Milgrom and
+/// Segal (2020).
 pub fn paid_is_greatest(sc: &Scenario, book: &Book, station: u32, order: Order)
     requires ascend { StationsAscend sc.now }
     requires by_value { sc.now.owners ≡ None }

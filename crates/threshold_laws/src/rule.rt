@@ -1,5 +1,5 @@
-//! The clock rule, run as it is defined: the rounds one after another, in each the stations in turn, and each test
-//! decided by a plain search over all stations on air.
+//! The clock rule, run as it is defined: round after round, and in each round the stations in turn. A plain search over all stations on
+//! air decides each test.
 
 ghost use Rattle.std.specs.Prelude.{◌≡◌, ◌<◌, ◌≤◌, ◌||◌, ◌==◌, [], IfOk, filter, length, map, not};
 ghost use Rattle.pack_defs.specs.Packing.{fits};
@@ -16,8 +16,7 @@ use pack_defs::scenario::Scenario;
 use plain_pack::search::fits;
 use std::alloc::{AllocError as NoMemory, Global};
 
-/// An auction to run: its scenario and book, and the price of each round from 0, the opening, to the last fall, in
-/// cents per unit of volume.
+/// An auction to run: its scenario, its book, and the price of each round from 0 to the last fall, in cents per unit of volume.
 #[derive(Drop)]
 pub(crate) struct PlainRule<'a> {
     pub(crate) sc: &'a Scenario,
@@ -26,7 +25,7 @@ pub(crate) struct PlainRule<'a> {
     ghost priced: { schedule.now ≡ prices sc.now },
 }
 
-// The value of a station of the scenario, if it has one.
+// Returns the value of a station of the scenario, if it has one.
 fn value_of(sc: &Scenario, station: u32) -> Option<u64>
     ensures { result ≡ value_of sc.now station }
 {
@@ -39,14 +38,14 @@ fn value_of(sc: &Scenario, station: u32) -> Option<u64>
     None
 }
 
-// Whether an owner's line says that the station stays in this round.
+// Checks whether an owner's line says that the station stays in this round.
 fn stays(owners: &Owners, round: usize, station: u32) -> bool
     ensures { result ≡ stays owners.now round station }
 {
     owners.lines().iter().any(|x| x.round as usize == round && x.station == station && x.stays)
 }
 
-// Whether the test of a station asks about this one.
+// Checks whether the test of `tested` asks about this station.
 fn is_asked(clock: &PlainClock, station: u32, tested: u32) -> bool
     ensures { result ≡ (is_on_air clock.now station || (station == tested)) }
 {
@@ -54,7 +53,7 @@ fn is_asked(clock: &PlainClock, station: u32, tested: u32) -> bool
 }
 
 impl PlainRule<'_> {
-    // What the station is offered in this round, in cents.
+    // Returns the station's offer in this round, in cents.
     fn offer(&self, station: u32, round: usize) -> u64
         requires { round < length self.now.schedule.now }
         ensures { result ≡ offer self.now.sc.now station round }
@@ -62,7 +61,7 @@ impl PlainRule<'_> {
         u64::from(self.schedule[round]) * u64::from(volume_of(self.sc, station))
     }
 
-    // Whether by its value the station would sooner stay on air than take the round's offer.
+    // Checks whether the station's value declines the round's offer.
     fn declines_by_value(&self, station: u32, round: usize) -> bool
         requires { round < length self.now.schedule.now }
         ensures { result ≡ declines_by_value self.now.sc.now station round }
@@ -73,7 +72,7 @@ impl PlainRule<'_> {
         }
     }
 
-    // Whether the station declines the round's offer.
+    // Checks whether the station declines the round's offer.
     fn declines(&self, station: u32, round: usize) -> bool
         requires { round < length self.now.schedule.now }
         ensures { result ≡ declines self.now.sc.now station round }
@@ -84,14 +83,14 @@ impl PlainRule<'_> {
         }
     }
 
-    // Whether the station declines the opening offer.
+    // Checks whether the station declines the opening offer.
     fn declines_opening(&self, station: u32) -> bool
         ensures { result ≡ declines self.now.sc.now station 0 }
     {
         self.declines(station, 0)
     }
 
-    // Whether the station, where its test of this round fits, goes on air.
+    // Checks whether the station goes on air if its test of this round fits.
     fn exits(&self, station: u32, round: usize) -> bool
         requires { round ≤ length self.now.schedule.now }
         ensures { result ≡ exits self.now.sc.now (record { round = round; station = station }) }
@@ -100,7 +99,7 @@ impl PlainRule<'_> {
         round == self.schedule.len() || self.declines(station, round)
     }
 
-    // The stations on air and this one, ascending.
+    // Returns the stations on air and this one, ascending.
     fn asked(&self, alloc: Global, clock: &PlainClock, station: u32) -> Result<Vec<u32>, NoMemory>
         ensures { IfOk result (λ set. set.items ≡ asked_set self.now.sc.now clock.now station) }
     {
@@ -115,7 +114,7 @@ impl PlainRule<'_> {
         Ok(set)
     }
 
-    // Whether the stations on air and this one fit.
+    // Checks whether the stations on air and this one fit.
     fn has_room(&self, alloc: Global, clock: &PlainClock, station: u32) -> Result<bool, NoMemory>
         requires { StationsAscend self.now.sc.now }
         ensures { IfOk result (λ room. room ≡ fits self.now.book.now (asked_set self.now.sc.now clock.now station)) }
@@ -127,7 +126,7 @@ impl PlainRule<'_> {
         }
     }
 
-    // The stations that decline the opening offer, on air from the start.
+    // Returns the stations that decline the opening offer, which are on air from the start.
     fn starters(&self, alloc: Global) -> Result<Vec<Aired>, NoMemory>
         ensures { IfOk result (λ v. v.items ≡ (opening_state self.now.sc.now).on_air) }
     {
@@ -145,7 +144,7 @@ impl PlainRule<'_> {
         Ok(on_air)
     }
 
-    // Those of these stations that don't decline the opening offer.
+    // Returns the stations among these that don't decline the opening offer.
     fn bidders(&self, alloc: Global, stations: &[u32]) -> Result<Vec<u32>, NoMemory>
         ensures { IfOk result (λ v. v.items ≡ filter (λ s. not (declines self.now.sc.now s 0)) stations.now) }
     {
@@ -159,7 +158,7 @@ impl PlainRule<'_> {
         Ok(bidders)
     }
 
-    // The clock before its first round.
+    // Returns the clock before its first round.
     fn open(&self, alloc: Global) -> Result<PlainClock, NoMemory>
         ensures { IfOk result (λ clock. clock ≡ opening_state self.now.sc.now) }
     {
@@ -169,7 +168,7 @@ impl PlainRule<'_> {
         Ok(PlainClock::open(alloc, on_air, active))
     }
 
-    // The test of this station in this round; one that isn't active isn't asked.
+    // Tests this station in this round. A station that isn't active isn't asked.
     fn test(
         &self,
         alloc: Global,
@@ -196,7 +195,7 @@ impl PlainRule<'_> {
         clock.air(station, round)
     }
 
-    // The tests of these stations in this round, in their order.
+    // Tests these stations in this round, in their order.
     fn round(
         &self,
         alloc: Global,
@@ -216,7 +215,10 @@ impl PlainRule<'_> {
         Ok(())
     }
 
-    /// The clock after every test, the tests of a round in this order. The only error is want of memory.
+    /// Returns the clock after every test, with the tests of a round in this order.
+    ///
+    /// # Errors
+    /// Fails only if memory runs out.
     pub(crate) fn run(&self, alloc: Global, order: Order) -> Result<PlainClock, NoMemory>
         requires { StationsAscend self.now.sc.now }
         ensures { IfOk result (λ clock. clock ≡ clock_rule self.now.sc.now self.now.book.now order []) }

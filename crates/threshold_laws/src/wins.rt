@@ -13,11 +13,15 @@ use pack_defs::scenario::Scenario;
 use pack_defs::station::Station;
 use std::alloc::{AllocError as NoMemory, Global};
 
-/// Whether the station would be bought with this value, in cents, in place of its own, every test being decided and
-/// the tests of a round in this order. This is the allocation rule of Milgrom and Segal in one bidder's value, whose
-/// greatest winning value up to the opening offer is the threshold price. A station that the scenario hasn't is never
-/// bought; and where owners say round by round what they do, the value changes nothing. It runs the whole clock, and
-/// each test is a plain search over all stations on air. The only error is want of memory.
+/// Checks whether the station would be bought with this value, in cents, in place of its own. Every test is decided, and the tests of a
+/// round are in this order.
+///
+/// This is the allocation rule of Milgrom and Segal (2020) in one bidder's value; its greatest winning value up to the opening offer is
+/// the threshold price. A station that the scenario lacks is never bought. In a live auction the value changes nothing. The call runs
+/// the complete clock, with a plain search over all stations on air for each test.
+///
+/// # Errors
+/// Fails only if memory runs out.
 pub fn wins_at(
     alloc: Global,
     sc: &Scenario,
@@ -40,7 +44,7 @@ pub fn wins_at(
     Ok(clock.is_frozen(station))
 }
 
-// The scenario in which this station has this value, and all else is as it was.
+// Returns the scenario in which this station has this value, and everything else is unchanged.
 fn with_value(alloc: Global, sc: &Scenario, station: u32, v: u64) -> Result<Scenario, NoMemory>
     ensures { IfOk result (λ new. new ≡ with_value sc.now station v) }
 {
@@ -54,7 +58,7 @@ fn with_value(alloc: Global, sc: &Scenario, station: u32, v: u64) -> Result<Scen
     Ok(new)
 }
 
-// The station with this value, if it is the one of this number.
+// Returns the station with this value if its facility number is `station`; otherwise unchanged.
 fn revalued(before: &Station, station: u32, v: u64) -> Station
     ensures { result ≡ revalued station v before.now }
 {

@@ -1,4 +1,4 @@
--- How often something stands in a list that is changed at one place.
+-- How often an item is in a list that is changed at one place.
 use Rattle.std.proofs.Common.{◌≡◌, ◌≢◌, ℕ, ◌+◌, ◌-◌, ◌<◌, ◌≤◌, Bool, true, false, cond, ◌==◌, List, [], ◌∷◌, ◌++◌, length, get_or, take, refl, ap, arith, eqb-true}
 use Rattle.std.specs.Prelude.{slice_set, swap_remove, count_by}
 use Rattle.std.specs.List.{All}
@@ -28,7 +28,7 @@ count-removed p xs i d l h =
     let none : one_if p (get_or xs i d) ≡ 0 = ap (λ (b : Bool). cond {A = ℕ} b 1 0) h in
     omega (arith, sum_by-swap_remove (one_if p) xs i d l, none)
 
--- what stands in a list has what all of it have
+-- an item of a list has what all its items have
 pub found : {X : Type 0} (p : X → Bool) (P : X → Type 0) (xs : List X) → 0 < count_by p xs → All P xs → (x : X) × (p x ≡ true) × P x
 found {X} p P [] h a = absurd (omega arith)
 found {X} p P (x ∷ xs) h a = go (p x) refl (found p P xs)

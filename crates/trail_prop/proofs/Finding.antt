@@ -1,4 +1,4 @@
--- Where no third place is found, the clause has no literal but the other watched one that is not false.
+-- For `turn`: if no third place is found, all literals of the clause except the other watched one are false.
 use Rattle.std.proofs.Common.{◌≡◌, ◌≢◌, ℕ, zero, suc, ◌<◌, true, not, cond, List, [], ◌∷◌, Some, None, length, refl, sym, ap, ◌∙◌, subst, inl, inr, ◌⊎◌, arith}
 use Rattle.std.proofs.lemmas.Bool.{cond-false, or_left, or_right}
 use Rattle.clause_db.specs.declared.lit.Lit.{Lit}
@@ -15,7 +15,7 @@ none-by-place : (known xs : List Lit) → ((k : ℕ) → k < length xs → has_l
 none-by-place known [] h = refl
 none-by-place known (x ∷ xs) h = open-skipped known xs x (h 0 (omega arith)) ∙ none-by-place known xs (λ k l. h (suc k) (omega arith))
 
--- where each place but one has a false literal, only that place can have another
+-- if all places except one have false literals, only that place can have another
 but-one : (known xs : List Lit) (b : ℕ) → b < length xs → ((k : ℕ) → k < length xs → k ≢ b → has_lit known (opposite (lit_at xs k)) ≡ true) → not_false known xs ≡ not_false known (lit_at xs b ∷ [])
 but-one known [] b l h = absurd (no-place b l)
   where
@@ -56,7 +56,7 @@ leaves-from known clause b l e = record {
 pub found-none : (known clause : List Lit) (a b : ℕ) → FindIs known clause a b None → b < length clause → has_lit known (opposite (lit_at clause a)) ≡ true → LeavesOnly known clause (lit_at clause b)
 found-none known clause a b f l g = leaves-from known clause b l (but-one known clause b l (others-false known clause a b f g))
 
--- a clause of two literals, of which one is false
+-- a clause of two literals, one of which is false
 pub pair-leaves : (known : List Lit) (l m : Lit) → has_lit known (opposite l) ≡ true → LeavesOnly known (l ∷ m ∷ []) m
 pair-leaves known l m h = leaves-from known (l ∷ m ∷ []) 1 (omega arith) (open-skipped known (m ∷ []) l h)
 

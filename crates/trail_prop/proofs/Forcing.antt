@@ -1,4 +1,4 @@
--- When a clause is settled, false or forces a literal.
+-- When a clause is settled, is false or forces a literal.
 use Rattle.std.proofs.Common.{◌≡◌, ℕ, ◌+◌, ◌<◌, Bool, true, false, not, cond, if◌then◌else◌, List, [], ◌∷◌, ◌++◌, Option, Some, None, length, get_or, take, drop, refl, sym, ap, ◌∙◌, subst, option_to_list}
 use Rattle.std.specs.List.{All}
 use Rattle.std.proofs.lemmas.Bool.{and_from, cond-true, and_right, and_left}
@@ -58,13 +58,13 @@ filter-passes-one known (x ∷ xs) l e = step (has_lit known (opposite x)) refl 
     step true h f e = f e
     step false h f e = let same : x ≡ l = cc in subst (λ (z : Lit). has_lit known (opposite z) ≡ false) same h
 
--- a forced literal is open
+-- a forced literal has no value
 pub forced-open : (known clause : List Lit) (l : Lit) → forced_by known clause ≡ Some l → is_open known l ≡ true
 forced-open known clause l e =
     let r = only_open-is known (not_false known clause) l e in
     and_from (not (has_lit known l)) (not (has_lit known (opposite l))) (ap not r.1) (ap not (filter-passes-one known clause l r.0))
 
--- and a literal of the clause
+-- and is a literal of the clause
 pub forced-within : (vars : ℕ) (known clause : List Lit) (l : Lit) → LitsWithin vars clause → forced_by known clause ≡ Some l → LitWithin vars l
 forced-within vars known clause l w e =
     let r = only_open-is known (not_false known clause) l e in

@@ -1,4 +1,4 @@
--- Literals: their marks, and what an open variable says of them.
+-- Literals: their marks, and what a variable without a value says of them.
 use Rattle.std.proofs.Common.{◌≡◌, ◌≢◌, ℕ, ◌*◌, ◌<◌, Bool, true, false, not, List, [], ◌∷◌, ◌++◌, length, refl, sym, ap, ◌∙◌, subst, inl, inr, ◌⊎◌, arith, get_or}
 use Rattle.std.specs.Prelude.{slice_set}
 use Rattle.std.proofs.lemmas.Bool.{and_parts, false≢true}
@@ -41,7 +41,7 @@ sign_cases true false = inr refl
 sign_cases false true = inr refl
 sign_cases false false = inl refl
 
--- a literal of an open variable is no known one's
+-- a literal without a value has another variable than each known one
 pub open-apart : (known : List Lit) (l k : Lit) → is_open known l ≡ true → has_lit known k ≡ true → k.var ≢ l.var
 open-apart known l k o h e =
     let parts = open-parts known l o in

@@ -1,4 +1,4 @@
--- What is kept while the watches of a literal that became false are met one by one.
+-- For `propagate`: what stays true while the watches of a literal that became false are visited.
 use Rattle.std.proofs.Common.{◌≡◌, ◌≢◌, ℕ, ◌+◌, ◌-◌, ◌<◌, ◌≤◌, true, false, not, ◌==◌, List, [], ◌∷◌, ◌++◌, length, get_or, take, sym, ap, ◌∙◌, subst, inl, inr, ◌⊎◌, arith, length-set, eq-eqb}
 use Rattle.std.specs.Prelude.{slice_set}
 use Rattle.std.specs.List.{All}
@@ -44,15 +44,15 @@ known-more es more l h =
 true-grows : (es more : List TrailEntry) (clause : List Lit) → HasTrue (lits_of es) clause → HasTrue (lits_of (es ++ more)) clause
 true-grows es more clause t = (t.0, t.1, known-more es more t.0 t.2)
 
--- the watch at a place, whatever is read where there is none
+-- the watch at a place, whatever the default is
 pub same-watch : (ws : List Watch) (at : ℕ) (w : Watch) → at < length ws → w ≡ get_or ws at w → (d : Watch) → (get_or ws at d).clause ≡ w.clause
 same-watch ws at w b e d = ap (λ (x : Watch). x.clause) (get_or_default ws at d w b ∙ sym e)
 
--- its clause has a true literal
+-- the clause of the watch has a true literal
 pub held-stays : (v : WatchView) (gone : Lit) (at : ℕ) (w : Watch) → AreHeld v gone at → at < length (watches_at v.lists gone) → w ≡ get_or (watches_at v.lists gone) at w → IsWatchHeld v w → AreHeld v gone (at + 1)
 held-stays v gone at w a b e h = All-more (IsWatchHeld v) (watches_at v.lists gone) at w b a (subst (λ (x : Watch). IsWatchHeld v x) e h)
 
--- it forces a literal
+-- the watch forces a literal
 pub held-forced : (v : WatchView) (gone : Lit) (at : ℕ) (w : Watch) (x : TrailEntry) → AreHeld v gone at → at < length (watches_at v.lists gone) → w ≡ get_or (watches_at v.lists gone) at w → has_lit (clause_of v.trail.clauses.list (w.clause - 1)) x.lit ≡ true → AreHeld (onto v (record { clauses = v.trail.clauses; entries = v.trail.entries ++ x ∷ [] })) gone (at + 1)
 held-forced v gone at w x a b e h =
     let es = v.trail.entries in
@@ -61,7 +61,7 @@ held-forced v gone at w x a b e h =
     let now : IsWatchHeld new w = (x.lit, h, entry-known (es ++ x ∷ []) (length es) x there) in
     held-stays new gone at w (All-weaker (IsWatchHeld v) (IsWatchHeld new) (λ y t. true-grows es (x ∷ []) (clause_of v.trail.clauses.list (y.clause - 1)) t) (take at (watches_at v.lists gone)) a) b e now
 
--- it is put in the place of another of the same clause
+-- the watch replaces another one of the same clause
 pub held-before : (v : WatchView) (gone : Lit) (at : ℕ) (w : Watch) → code_of gone < length v.lists → AreHeld v gone at → at < length (watches_at v.lists gone) → AreHeld (relisted v gone (slice_set (watches_at v.lists gone) at w)) gone at
 held-before v gone at w c a b =
     let ws = watches_at v.lists gone in
@@ -78,7 +78,7 @@ length-put v gone at w c =
     let ws = watches_at v.lists gone in
     ap (λ (z : List Watch). length z) (relisted-same v.lists gone (slice_set ws at w) c) ∙ length-set ws at w
 
--- the watch that was put in its place is the next one
+-- the watch that was put there is the next one
 pub next-put : (v : WatchView) (gone : Lit) (at : ℕ) (w : Watch) → code_of gone < length v.lists → at < length (watches_at v.lists gone) → WatchFits v.trail.clauses.list gone w → AreHeld v gone at → IsNextWatch (relisted v gone (slice_set (watches_at v.lists gone) at w)) gone at w
 next-put v gone at w c b f a =
     let ws = watches_at v.lists gone in
@@ -90,7 +90,7 @@ next-put v gone at w c b f a =
       held = held-before v gone at w c a b;
     }
 
--- a watch that names another literal of its clause, which isn't a pair
+-- a watch that names another literal of its clause, which is not a pair
 pub fits-named : (list : List (List Lit)) (gone other : Lit) (w named : Watch) → WatchFits list gone w → w.pair ≡ false → (named.clause ≡ w.clause) × (named.pair ≡ w.pair) → (lit_of named.blocker ≡ other) ⊎ (named.blocker ≡ w.blocker) → has_lit (clause_of list (w.clause - 1)) other ≡ true → WatchFits list gone named
 fits-named list gone other w named f long same blocker has = record {
   from_one = subst (λ (n : ℕ). 1 ≤ n) (sym same.0) f.from_one;
@@ -102,7 +102,7 @@ fits-named list gone other w named f long same blocker has = record {
   pairs = λ p. absurd (false≢true (sym (same.1 ∙ long) ∙ p));
 }
 
--- it is taken away
+-- the watch is removed
 pub held-shrunk : (old new : WatchView) (gone : Lit) (at : ℕ) → Shrinks old new gone at → AreHeld old gone at → AreHeld new gone at
 held-shrunk old new gone at s a =
     subst (λ (z : List Watch). All (IsWatchHeld new) z) (sym s.kept) (subst (λ (t : TrailView). All (λ (w : Watch). HasTrue (lits_of t.entries) (clause_of t.clauses.list (w.clause - 1))) (take at (watches_at old.lists gone))) (sym s.trail) a)
@@ -124,7 +124,7 @@ hung-new v h l w n c e s =
     let there : watches_at h.lists l ≡ watches_at v.lists l ++ w ∷ [] = ap (λ (x : WatchView). watches_at x.lists l) e ∙ relisted-same v.lists l (watches_at v.lists l ++ w ∷ []) c in
     subst (λ (z : List Watch). 0 < watches_of n z) (sym there) (count-pushed (λ (y : Watch). y.clause == n) (watches_at v.lists l) w (eq-eqb w.clause n s))
 
--- at level 0 a clause with a true literal is true for good
+-- at level 0, a clause with a true literal stays true
 pub fixed-first : (es : List TrailEntry) (clause : List Lit) (level : ℕ) → level ≡ 0 → All (λ (e : TrailEntry). e.level ≤ level) es → HasTrue (lits_of es) clause → IsFixed es clause
 fixed-first es clause level z top t =
     let q = known-entry es t.0 t.2 in
@@ -132,7 +132,7 @@ fixed-first es clause level z top t =
     let low : q.1.level ≤ level = subst (λ (x : TrailEntry). x.level ≤ level) q.2.1 (top q.0 q.1 q.2.0) in
     (q.0, q.1, q.2, has, omega arith)
 
--- two watches are hung, one of each of two literals
+-- two watches are appended, one for each of two literals
 pub watched-both : (v : WatchView) (n : ℕ) (clause : List Lit) (p : WatchPlaces) (one two : Watch) → code_of (lit_at clause p.first) < length v.lists → code_of (lit_at clause p.second) < length v.lists → one.clause ≡ n → two.clause ≡ n → AreGood v.trail.entries clause p → (h : WatchView) → h ≡ relisted v (lit_at clause p.first) (watches_at v.lists (lit_at clause p.first) ++ one ∷ []) → IsWatched h.trail.entries h.head (slice_set h.lists (code_of (lit_at clause p.second)) (watches_at h.lists (lit_at clause p.second) ++ two ∷ [])) n clause p
 watched-both v n clause p one two c d s t g h e =
     let first = lit_at clause p.first in
@@ -150,7 +150,7 @@ watched-both v n clause p one two c d s t g h e =
       apart = g.apart;
     }
 
--- the entry at the head stays there, and of the last level
+-- the entry at the head stays there, at the last level
 pub stands-grows : (es later : List TrailEntry) (head : ℕ) (gone : Lit) → Grows es later → StandsAt es head (level_of es) gone → StandsAt later head (level_of later) gone
 stands-grows es later head gone g s =
     let same = grows-level es later g in

@@ -1,4 +1,4 @@
--- What each change of the watched clauses keeps.
+-- For `watching`: what each change keeps of the invariant.
 use Rattle.std.proofs.Common.{◌≡◌, ◌≢◌, ℕ, ◌+◌, ◌-◌, ◌<◌, ◌≤◌, false, ◌==◌, List, [], ◌∷◌, ◌++◌, length, get_or, refl, sym, ap, ◌∙◌, subst, inl, inr, ◌⊎◌, arith, length-append, length-set, eq-eqb}
 use Rattle.std.specs.Prelude.{slice_set, swap_remove}
 use Rattle.std.specs.List.{All}
@@ -20,7 +20,7 @@ use Rattle.clause_db.proofs.Literals.{code-is, code-below}
 pub same-or-not : (m n : ℕ) → (m ≡ n) ⊎ (m ≢ n)
 same-or-not m n = grind arith
 
--- the clause waits, is true for good, or is watched
+-- the clause is pending, true at level 0, or watched
 abbrev pub Minds : List TrailEntry → ℕ → List (List Watch) → List ℕ → ℕ → List Lit → WatchPlaces → Type 0
 Minds entries head lists pending k clause p = (0 < waits (k + 1) pending) ⊎ (IsFixed entries clause ⊎ IsWatched entries head lists (k + 1) clause p)
 
@@ -168,7 +168,7 @@ watchful-put v l at w h stands f =
     watchful-relisted v l (slice_set (watches_at v.lists l) at w) h stands.within (All-set (WatchFits v.trail.clauses.list l) (watches_at v.lists l) at w f (h.fits l stands.within))
     (λ n. let same = count-set (λ (y : Watch). y.clause == n) (watches_at v.lists l) at w w stands.place (ap (λ (c : ℕ). c == n) (sym (stands.clause w))) in omega arith)
 
--- a watch is gone: of the others' none is
+-- a watch is removed, and none of the others
 pub others-stay : (ws : List Watch) (at n k : ℕ) (d : Watch) → at < length ws → (get_or ws at d).clause ≡ n → k + 1 ≢ n → watches_of (k + 1) ws ≤ watches_of (k + 1) (swap_remove ws at d)
 others-stay ws at n k d b e o =
     let apart : ((get_or ws at d).clause == k + 1) ≡ false = ap (λ (c : ℕ). c == k + 1) e ∙ not-same n (k + 1) (λ q. o (sym q)) in

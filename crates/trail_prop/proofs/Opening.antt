@@ -1,4 +1,4 @@
--- Entries that each open a new variable: one more, one less, and that there are no more than variables.
+-- For `assignment`: entries that each assign a new variable. One more, one less, and no more than variables.
 use Rattle.std.proofs.Common.{◌≡◌, ◌≢◌, ℕ, ◌-◌, ◌<◌, ◌≤◌, Bool, true, false, not, if◌then◌else◌, Some, List, [], ◌∷◌, ◌++◌, map, length, refl, sym, ap, ◌∙◌, subst, arith, append_assoc, length-append, eqb-true, inl, inr, ⊎_elim, None}
 use Rattle.std.specs.List.{list_any, IsDistinct, AllByRecursion}
 use Rattle.std.proofs.Math.Dec.{eqb}
@@ -71,7 +71,7 @@ no-more-than-vars vars es o =
     let n = length-le_from_distinct_below (places es) vars (distinct-places vars [] es o) (λ q h. places-below vars [] es q o h) in
     subst (λ (z : ℕ). z ≤ vars) (length-map es (λ (e : TrailEntry). e.lit.var - 1)) n
 
--- while a variable is open there are fewer
+-- while a variable has no value, there are fewer entries than variables
 pub room-for-one : (vars : ℕ) (es : List TrailEntry) (e : TrailEntry) → EachOpens vars [] es → LitWithin vars e.lit → is_open (lits_of es) e.lit ≡ true → length es < vars
 room-for-one vars es e o w f =
     let n = no-more-than-vars vars (es ++ e ∷ []) (opens-push vars [] es e o w f) in
@@ -86,14 +86,14 @@ known-within vars before (x ∷ xs) l o h =
       | inr r ↦ known-within vars (before ++ x ∷ []) xs l o.2 r
     ]
 
--- nothing is known of what is no variable
+-- nothing is known of a number that is not a variable's
 pub no-value : (vars : ℕ) (es : List TrailEntry) (v : ℕ) → EachOpens vars [] es → ((1 ≤ v) → v ≤ vars → ⊥) → value_known (lits_of es) v ≡ None
 no-value vars es v o n =
     let p : has_lit (lits_of es) (pos_lit v) ≡ false = false_from_ne_true (has_lit (lits_of es) (pos_lit v)) (λ h. let w = known-within vars [] es (pos_lit v) o h in n w.0 w.1) in
     let q : has_lit (lits_of es) (neg_lit v) ≡ false = false_from_ne_true (has_lit (lits_of es) (neg_lit v)) (λ h. let w = known-within vars [] es (neg_lit v) o h in n w.0 w.1) in
     rw (p, q) refl
 
--- a variable without a value is open, either way
+-- a variable without a value is in neither literal
 pub none-opens : (known : List Lit) (l : Lit) → value_known known l.var ≡ None → is_open known l ≡ true
 none-opens known l e = parts (has_lit known (pos_lit l.var)) (has_lit known (neg_lit l.var)) refl refl e l.positive refl
   where

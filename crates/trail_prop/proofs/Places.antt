@@ -1,4 +1,4 @@
--- Entries by their places, and the place of each variable's entry.
+-- For `assignment`: entries by their places, and the place of each variable's entry.
 use Rattle.std.proofs.Common.{◌≡◌, ◌≢◌, ℕ, zero, suc, ◌+◌, ◌-◌, ◌<◌, ◌≤◌, true, List, [], ◌∷◌, ◌++◌, length, get_or, refl, sym, ap, ◌∙◌, subst, inl, inr, ◌⊎◌, arith, length-append, add-one}
 use Rattle.std.specs.Prelude.{slice_set}
 use Rattle.std.proofs.lemmas.Bool.{or_cases, or_left, or_right, false≢true}
@@ -33,7 +33,7 @@ entry-known [] k e (l, r) = absurd (omega arith)
 entry-known (x ∷ xs) zero e (l, r) = or_left (same_lit e.lit x.lit) (has_lit (lits_of xs) e.lit) (ap (λ (z : TrailEntry). same_lit e.lit z.lit) r ∙ same_lit-refl e.lit)
 entry-known (x ∷ xs) (suc k) e (l, r) = or_right (same_lit e.lit x.lit) (has_lit (lits_of xs) e.lit) (entry-known xs k e (omega arith, r))
 
--- an entry of the first part is one of the whole, and one of the whole at a place of the first part is one of it
+-- entries of the first part are entries of the list, and entries of the list at places of the first part are entries of that part
 pub entry-left : (xs ys : List TrailEntry) (k : ℕ) (e : TrailEntry) → IsTrailEntry xs k e → IsTrailEntry (xs ++ ys) k e
 entry-left xs ys k e (l, r) = (omega (arith, length-append xs ys), get_or_append_left xs ys e k l ∙ r)
 

@@ -1,5 +1,5 @@
--- A watched literal stays safe as the trail grows and is cut and as entries are propagated, and a clause that watches
--- two is settled once all are.
+-- A watched literal stays safe while the trail grows and is cut and while entries are propagated. A clause that watches two
+-- literals is settled once all entries are propagated.
 use Rattle.std.proofs.Common.{◌≡◌, ◌≢◌, ℕ, ◌+◌, ◌-◌, ◌<◌, ◌≤◌, Bool, true, false, not, List, [], ◌∷◌, ◌++◌, None, length, get_or, take, drop, refl, sym, ap, ◌∙◌, subst, inl, inr, ◌⊎◌, arith, length-drop, get_or-drop, append_assoc}
 use Rattle.std.specs.List.{All}
 use Rattle.std.proofs.lemmas.Bool.{or_cases, false≢true, false_from_ne_true}
@@ -55,7 +55,7 @@ fixed-cut later gone level clause high r =
           absurd (omega arith)
     ]
 
--- no literal and its opposite are both true
+-- a literal and its opposite are not both true
 not_not : (b : Bool) → b ≡ not (not b)
 not_not true = refl
 not_not false = refl
@@ -186,7 +186,7 @@ pub safe-open : (es : List TrailEntry) (head : ℕ) (clause : List Lit) (l : Lit
 safe-open es head clause l h = λ k e b i f.
     absurd (false≢true (sym h ∙ (ap (λ (z : Lit). has_lit (lits_of es) z) (sym f) ∙ entry-known es k e i)))
 
--- one that became false late is safe in a clause that has a true literal
+-- a literal that became false at the last level is safe in a clause with a true literal
 pub safe-late : (es : List TrailEntry) (head : ℕ) (clause : List Lit) (l : Lit) → HasTrue (lits_of es) clause → IsLateFalse es l → IsSafe es head clause l
 safe-late es head clause l t late = λ k e b i f.
     let q = known-entry es t.0 t.2 in
@@ -205,7 +205,7 @@ last-or-before k n h = grind arith
 at-head : (es : List TrailEntry) (head k : ℕ) (e x : TrailEntry) → IsTrailEntry es head e → k ≡ head → IsTrailEntry es k x → x ≡ e
 at-head es head k e x h q i = entry-same es head e x h (subst (λ (n : ℕ). IsTrailEntry es n x) q i)
 
--- one more entry is propagated, for a clause with a true literal, where no entry is of a higher level
+-- one more entry is propagated, for a clause with a true literal, if no entry has a higher level
 pub safe-step : (es : List TrailEntry) (head : ℕ) (clause : List Lit) (l : Lit) (e : TrailEntry) → IsSafe es head clause l → IsTrailEntry es head e → HasTrue (lits_of es) clause → ((j : ℕ) (t : TrailEntry) → IsTrailEntry es j t → t.level ≤ e.level) → IsSafe es (head + 1) clause l
 safe-step es head clause l e s h t top = λ k x b g f.
     elim (last-or-before k head b) [
@@ -218,7 +218,7 @@ safe-step es head clause l e s h t top = λ k x b g f.
           (q.0, q.1, q.2, has, low)
     ]
 
--- and for a literal that this entry does not make false
+-- one more entry is propagated, for a literal that the entry does not make false
 pub safe-other : (es : List TrailEntry) (head : ℕ) (clause : List Lit) (l : Lit) (e : TrailEntry) → IsSafe es head clause l → IsTrailEntry es head e → e.lit ≢ opposite l → IsSafe es (head + 1) clause l
 safe-other es head clause l e s h n = λ k x b g f.
     elim (last-or-before k head b) [

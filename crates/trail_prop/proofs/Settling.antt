@@ -1,4 +1,4 @@
--- What the changes keep after which a clause is watched at other places, or waits no longer; and what holds at the end.
+-- What stays true when a clause is watched at other places or is no longer pending, and what holds at the end.
 use Rattle.std.proofs.Common.{◌≡◌, ◌≢◌, ℕ, zero, ◌+◌, ◌-◌, ◌*◌, ◌<◌, ◌≤◌, true, false, ◌==◌, suc, ◌^◌, List, [], ◌∷◌, ◌++◌, length, take, get_or, replicate, refl, sym, ap, ◌∙◌, subst, inl, inr, arith, length-set, eqb-true, eq-eqb}
 use Rattle.std.specs.Prelude.{slice_set, swap_remove}
 use Rattle.std.specs.List.{All}
@@ -62,7 +62,7 @@ moved-minds vars es head lists gone ws pending k clause p m wg wl wo false' mv h
   ])
 ]
 
--- its places are changed alone
+-- only its places change
 placed-same : (places : List WatchPlaces) (k : ℕ) (p : WatchPlaces) → k < length places → places_of (slice_set places k p) k ≡ p
 placed-same places k p b = get_or-set_same places k p (record { first = 0; second = 0 }) b
 
@@ -103,7 +103,7 @@ watchful-left v gone at n d m h stands number wl wo f mv hung =
       ];
     }
 
--- a clause waits no longer
+-- a clause is no longer pending
 others-wait : (pending : List ℕ) (at k : ℕ) (d : ℕ) → at < length pending → get_or pending at d ≢ k + 1 → waits (k + 1) pending ≤ waits (k + 1) (swap_remove pending at d)
 others-wait pending at k d b o =
     let same = count-removed (λ (m : ℕ). m == k + 1) pending at d b (not-same (get_or pending at d) (k + 1) o) in
@@ -154,7 +154,7 @@ watchful-settled v at n d p h waits number w =
       ];
     }
 
--- the entry at the head is passed
+-- the head moves past its entry
 held-true : (v : WatchView) (gone l : Lit) (k : ℕ) → code_of l ≡ code_of gone → 0 < watches_of (k + 1) (watches_at v.lists l) → All (IsWatchHeld v) (watches_at v.lists gone) → HasTrue (lits_of v.trail.entries) (clause_of v.trail.clauses.list k)
 held-true v gone l k e h a =
     let h' : 0 < watches_of (k + 1) (watches_at v.lists gone) = subst (λ (c : ℕ). 0 < watches_of (k + 1) (get_or v.lists c [])) e h in
@@ -198,7 +198,7 @@ no-watches zero c = refl
 no-watches (suc n) zero = refl
 no-watches (suc n) (suc c) = no-watches n c
 
--- once no entry is left, and each clause that waits is settled, all are
+-- once no entry is left and each pending clause is settled, all clauses are
 pub watchful-complete : (v : WatchView) → IsWatchful v → EachOpens v.trail.clauses.vars [] v.trail.entries → v.head ≡ length v.trail.entries → All (λ (n : ℕ). IsClauseSettled (lits_of v.trail.entries) (clause_of v.trail.clauses.list (n - 1))) v.pending → IsComplete v.trail.clauses.list (lits_of v.trail.entries)
 watchful-complete v h o last a = λ k d b.
     let es = v.trail.entries in
@@ -233,7 +233,7 @@ watchful-new clauses lists places pending small x e n p w = record {
   minds = λ k t. inl (w.1 k t);
 }
 
--- so many clauses wait
+-- this many clauses are pending
 pub all-wait-more : (count : ℕ) (pending : List ℕ) → AllWait count pending → AllWait (count + 1) (pending ++ (count + 1) ∷ [])
 all-wait-more count pending w = (
   All-push (IsNumber (count + 1)) pending (count + 1) (All-weaker (IsNumber count) (IsNumber (count + 1)) (λ n b. let t = b.to_last in record { from_one = b.from_one; to_last = omega arith }) pending w.0) (record { from_one = omega arith; to_last = omega arith }),
@@ -246,7 +246,7 @@ all-wait-more count pending w = (
   ],
 )
 
--- a watch is taken away
+-- a watch is removed
 pub shrinks-removed : (v : WatchView) (lists : List (List Watch)) (places : List WatchPlaces) (pending : List ℕ) (gone : Lit) (at : ℕ) (d : Watch) → code_of gone < length v.lists → at < length (watches_at v.lists gone) → lists ≡ slice_set v.lists (code_of gone) (swap_remove (watches_at v.lists gone) at d) → Shrinks v (record { trail = v.trail; lists = lists; places = places; pending = pending; head = v.head }) gone at
 shrinks-removed v lists places pending gone at d c b e =
     let ws = watches_at v.lists gone in

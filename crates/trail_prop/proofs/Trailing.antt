@@ -1,4 +1,4 @@
--- Trails: one entry more, some less, one clause more; and trails that grow.
+-- Trails with one more entry, fewer entries or one more clause, and trails that grow.
 use Rattle.std.proofs.Common.{◌≡◌, ℕ, ◌+◌, ◌-◌, ◌<◌, ◌≤◌, Bool, true, false, cond, if◌then◌else◌, ◌==◌, List, [], ◌∷◌, ◌++◌, Option, Some, None, length, refl, sym, ap, ◌∙◌, subst, arith, append_assoc, filter, inl, inr, ◌⊎◌, ◌^◌}
 use Rattle.std.specs.List.{All}
 use Rattle.std.proofs.lemmas.Grind.{common_steps}
@@ -42,7 +42,7 @@ fits-opens c before (x ∷ xs) f = (f.0.within, f.0.opens, fits-opens c (before 
 pub no-more-entries : (c : Clauses) (es : List TrailEntry) → IsTrail c es → length es ≤ c.vars
 no-more-entries c es f = no-more-than-vars c.vars es (fits-opens c [] es f)
 
--- a clause more leaves each reason
+-- one more clause keeps each reason
 at-more : (known : List Lit) (clauses more : List (List Lit)) (n : ℕ) (l : Lit) → forced_at known (clause_at clauses n) ≡ Some l → forced_at known (clause_at (clauses ++ more) n) ≡ Some l
 at-more known [] more n l e = cc
 at-more known (d ∷ ds) more n l e = step (n == 1) (at-more known ds more (n - 1) l) e
@@ -76,7 +76,7 @@ level-push es e = count-append es (e ∷ []) ∙ grind (arith, common_steps)
 pub level-part : (xs ys : List TrailEntry) → level_of xs ≤ level_of (xs ++ ys)
 level-part xs ys = let e = count-append xs ys in omega arith
 
--- each entry's level is at most that of all
+-- each entry's level is at most the number of all decisions
 pub levels-up : (c : Clauses) (before es : List TrailEntry) → EachFits c before es → All (λ (e : TrailEntry). e.level ≤ level_of (before ++ es)) es
 levels-up c before [] f = All-nil (λ (e : TrailEntry). e.level ≤ level_of (before ++ []))
 levels-up c before (x ∷ xs) f =
@@ -115,7 +115,7 @@ pub grows-push : (es : List TrailEntry) (e : TrailEntry) → is_decision e ≡ f
 grows-push es e d l =
     record { more = e ∷ []; follows = refl; forced = All-cons (λ (x : TrailEntry). (is_decision x ≡ false) × (x.level ≡ level_of es)) e [] (d, l) (All-nil (λ (x : TrailEntry). (is_decision x ≡ false) × (x.level ≡ level_of es))) }
 
--- an entry is kept or not by its level
+-- an entry is kept by its level, or not
 pub keeps : (level : ℕ) (e : TrailEntry) → e.level ≤ level → is_up_to level e ≡ true
 keeps level e h = grind (arith, common_steps)
 
@@ -208,6 +208,6 @@ cut-levels clauses level earlier later t l k =
           omega arith
     ]
 
--- a trail by its parts
+-- two trails with the same clauses and entries are equal
 pub same-trail : (t : TrailView) (c : Clauses) (es : List TrailEntry) → t.clauses ≡ c → t.entries ≡ es → t ≡ record { clauses = c; entries = es }
 same-trail t c es p q = λ i. record { clauses = p i; entries = q i }

@@ -7,19 +7,19 @@ use Rattle.trail_prop.specs.declared.turn.WatchPlaces.{WatchPlaces}
 use Rattle.trail_prop.specs.Entries.{lits_of, IsTrailEntry}
 use Rattle.trail_prop.specs.Watching.{IsSafe, lit_at}
 
--- no entry is of a higher level than the one that made the literal false
+-- Whether no entry has a higher level than the one that made the literal false.
 abbrev pub IsLateFalse : List TrailEntry → Lit → Type 0
 IsLateFalse entries l = (k : ℕ) (e : TrailEntry) → IsTrailEntry entries k e → e.lit ≡ opposite l → (j : ℕ) (t : TrailEntry) → IsTrailEntry entries j t → t.level ≤ e.level
 
--- the literal is not false, or became so late, in a clause that has a true literal
+-- Whether the literal is not false; or it became false at the last level, in a clause with a true literal.
 abbrev pub IsGood : List TrailEntry → Bool → Lit → Type 0
 IsGood entries holds l = (has_lit (lits_of entries) (opposite l) ≡ false) ⊎ ((holds ≡ true) × IsLateFalse entries l)
 
--- such a place of a clause, whose literal is not this one
+-- Whether the place has a literal that may be watched, other than `beside`.
 abbrev pub IsGoodPlace : List TrailEntry → Bool → List Lit → Option Lit → ℕ → Type 0
 IsGoodPlace entries holds clause beside i = (i < length clause) × IsGood entries holds (lit_at clause i) × (Some (lit_at clause i) ≢ beside)
 
--- two places of the clause with different literals, each safe at any head
+-- Two places of a clause with different literals, both safe at any head.
 pub record AreGood (entries : List TrailEntry) (clause : List Lit) (p : WatchPlaces) : Type 0 where
   pub first_within : p.first < length clause
   pub second_within : p.second < length clause

@@ -15,85 +15,86 @@ use Rattle.trail_prop.specs.Open.{IsComplete, IsClauseSettled}
 use Rattle.trail_prop.specs.Trails.{TrailView, IsFalseAt, Grows}
 use Rattle.trail_prop.specs.Watching.{WatchView, WatchFits, HasTrue, clause_of, watches_at}
 
--- another trail, or other watches of a literal
+-- The watched clauses with another trail.
 abbrev pub onto : WatchView → TrailView → WatchView
 onto v trail = record { trail = trail; lists = v.lists; places = v.places; pending = v.pending; head = v.head }
 
+-- The watched clauses with other watches of a literal.
 abbrev pub relisted : WatchView → Lit → List Watch → WatchView
 relisted v l ws = record { trail = v.trail; lists = slice_set v.lists (code_of l) ws; places = v.places; pending = v.pending; head = v.head }
 
--- the clause of the watch has a true literal
+-- Whether the clause of the watch has a true literal.
 abbrev pub IsWatchHeld : WatchView → Watch → Type 0
 IsWatchHeld v w = HasTrue (lits_of v.trail.entries) (clause_of v.trail.clauses.list (w.clause - 1))
 
--- the clauses of the first so many watches of the literal each have a true literal
+-- Whether the clauses of the literal's first `at` watches each have a true literal.
 abbrev pub AreHeld : WatchView → Lit → ℕ → Type 0
 AreHeld v gone at = All (IsWatchHeld v) (take at (watches_at v.lists gone))
 
--- a watch in the list of a literal that became false, whose turn it is to be met
+-- The watch to visit next, in the list of a literal that became false.
 pub record IsNextWatch (v : WatchView) (gone : Lit) (at : ℕ) (w : Watch) : Type 0 where
   -- the literal has a watch at the place
   pub place : at < length (watches_at v.lists gone)
   -- and it is this one
   pub watch : w ≡ slice_index_or (watches_at v.lists gone) at w
-  -- it is of a clause of the trail, one of whose literals it names
+  -- the watch is of a clause of the trail, and names one of its literals
   pub fits : WatchFits v.trail.clauses.list gone w
-  -- the clauses of the watches before it are done with
+  -- the clauses of the watches before the place are done
   pub held : AreHeld v gone at
 
--- such a watch whose clause must be read, since it isn't known to have two literals alone
+-- A watch to visit next whose clause must be read, since it may have more than two literals.
 pub record IsNextLong (v : WatchView) (gone : Lit) (at : ℕ) (w : Watch) : Type 0 where
   -- the literal's variable is one of the trail's
   pub within : LitWithin v.trail.clauses.vars gone
-  -- its turn has come
+  -- it is the watch to visit next
   pub next : IsNextWatch v gone at w
-  -- it doesn't say that its clause is a pair
+  -- the watch does not mark its clause as a pair
   pub long : w.pair ≡ false
 
--- one watch of a literal is gone, behind the first so many; the trail stands
+-- Whether one watch of a literal is removed, at or after the place, and the trail stays.
 pub record Shrinks (old new : WatchView) (gone : Lit) (at : ℕ) : Type 0 where
   pub trail : new.trail ≡ old.trail
   pub head : new.head ≡ old.head
   pub kept : take at (watches_at new.lists gone) ≡ take at (watches_at old.lists gone)
   pub left : length (watches_at new.lists gone) + 1 ≡ length (watches_at old.lists gone)
 
--- what became of the watch at a place, the ones before it staying as they are
+-- What happened to the watch at a place. The ones before it stay.
 abbrev pub MetIs : WatchView → WatchView → Lit → ℕ → WatchMet → Type 0
 MetIs old new gone at (False conflict) = IsFalseAt (lits_of new.trail.entries) (clause_at new.trail.clauses.list conflict.clause)
 MetIs old new gone at Stays = AreHeld new gone (at + 1) × (length (watches_at new.lists gone) ≡ length (watches_at old.lists gone))
 MetIs old new gone at Leaves = AreHeld new gone at × (length (watches_at new.lists gone) + 1 ≡ length (watches_at old.lists gone))
 
--- the entry at the head, if the head is not behind the last
+-- Whether this is the entry at the head, or the head is after the last entry.
 abbrev pub NextIs : WatchView → Option TrailEntry → Type 0
 NextIs v None = v.head ≡ length v.trail.entries
 NextIs v (Some e) = IsTrailEntry v.trail.entries v.head e × LitWithin v.trail.clauses.vars e.lit
 
--- a false clause was found; or none is false and none forces; or one more entry is propagated, or on the trail
+-- What a step says: a false clause was found; no clause is false and none forces a literal; or the head moved or the trail grew.
 abbrev pub PropagationStepIs : WatchView → WatchView → PropagationStep → Type 0
 PropagationStepIs old new (Found conflict) = IsFalseAt (lits_of new.trail.entries) (clause_at new.trail.clauses.list conflict.clause)
 PropagationStepIs old new Quiet = IsComplete new.trail.clauses.list (lits_of new.trail.entries)
 PropagationStepIs old new Moved = (length old.trail.entries + old.head < length new.trail.entries + new.head) × (length new.trail.entries + new.head ≤ 2 * new.trail.clauses.vars)
 
--- what stays so while the watches of a literal are met one by one, up to a place
+-- What stays true while the watches of a literal are visited, up to a place.
 pub record VisitKeeps (old new : WatchView) (gone : Lit) (at : ℕ) : Type 0 where
-  -- the clauses stand
+  -- the clauses stay
   pub clauses : new.trail.clauses ≡ old.trail.clauses
-  -- the entry isn't passed yet
+  -- the head stays
   pub head : new.head ≡ old.head
-  -- entries are added by force alone
+  -- only forced entries are appended
   pub grows : Grows old.trail.entries new.trail.entries
-  -- the clauses of the watches before the place are done with
+  -- the clauses of the watches before the place are done
   pub held : AreHeld new gone at
 
--- what stays so while the clauses that wait, so many at the start, are looked at one by one, up to a place
+-- What stays true while the pending clauses, `many` at the start, are visited, up to a place.
 pub record LooksKeep (old new : WatchView) (at many : ℕ) : Type 0 where
-  -- as many wait as at the start
+  -- as many are pending as at the start
   pub count : many ≡ length new.pending
-  -- the clauses stand
+  -- the clauses stay
   pub clauses : new.trail.clauses ≡ old.trail.clauses
-  -- no entry is passed
+  -- the head stays
   pub head : new.head ≡ old.head
-  -- entries are added by force alone
+  -- only forced entries are appended
   pub grows : Grows old.trail.entries new.trail.entries
-  -- while none is added, none of the clauses before the place is false or forces a literal
+  -- while no entry is appended, no clause before the place is false or forces a literal
   pub quiet : length new.trail.entries ≡ length old.trail.entries → All (λ (n : ℕ). IsClauseSettled (lits_of new.trail.entries) (clause_of new.trail.clauses.list (n - 1))) (take at new.pending)

@@ -9,52 +9,54 @@ use Rattle.trail_prop.specs.Open.{is_open}
 use Rattle.trail_prop.specs.declared.entry.TrailEntry.{TrailEntry}
 use Rattle.trail_prop.specs.Entries.{lits_of, is_decision, level_of}
 
+-- Clauses and entries.
 pub record TrailView : Type 0 where
   pub clauses : Clauses
   pub entries : List TrailEntry
 
--- the literal that a clause forces, none where there is no such clause
+-- The literal that a clause forces, or `None` if there is no clause.
 abbrev pub forced_at : List Lit → Option (List Lit) → Option Lit
 forced_at known None = None
 forced_at known (Some clause) = forced_by known clause
 
--- there is such a clause, and it is false
+-- Whether there is a clause and it is false.
 abbrev pub IsFalseAt : List Lit → Option (List Lit) → Type 0
 IsFalseAt known None = ⊥
 IsFalseAt known (Some clause) = is_false_clause known clause ≡ true
 
--- A decision has no reason. Any other entry's reason is the number of a clause that forces its literal.
+-- Whether this is the reason of the literal: none for a decision, or else the number of a clause that forces the literal.
 abbrev pub HasReason : List (List Lit) → List Lit → Lit → Option ℕ → Type 0
 HasReason clauses known lit None = Unit {0}
 HasReason clauses known lit (Some n) = forced_at known (clause_at clauses n) ≡ Some lit
 
--- what an entry says after these: a new variable, the number of decisions up to it, and its reason
+-- An entry that may follow these: its variable is new, its level is the number of decisions up to it, and its reason forces its
+-- literal.
 pub record EntryFits (clauses : Clauses) (before : List TrailEntry) (e : TrailEntry) : Type 0 where
   pub within : LitWithin clauses.vars e.lit
   pub opens : is_open (lits_of before) e.lit ≡ true
   pub levels : e.level ≡ level_of (before ++ e ∷ [])
   pub reasons : HasReason clauses.list (lits_of before) e.lit e.reason
 
--- each of these entries fits after those before
+-- Whether each of these entries fits after those before it.
 abbrev pub EachFits : Clauses → List TrailEntry → List TrailEntry → Type 0
 EachFits clauses before [] = Unit {0}
 EachFits clauses before (e ∷ es) = EntryFits clauses before e × EachFits clauses (before ++ e ∷ []) es
 
--- the entries are a trail of the clauses
+-- Whether the entries are a trail of the clauses.
 abbrev pub IsTrail : Clauses → List TrailEntry → Type 0
 IsTrail clauses entries = EachFits clauses [] entries
 
--- the later entries are the earlier ones and then more, each forced at the level that was
+-- Whether the later entries are the earlier ones and then more, each forced at the same level.
 pub record Grows (earlier later : List TrailEntry) : Type 0 where
   pub more : List TrailEntry
   pub follows : later ≡ earlier ++ more
   pub forced : All (λ (e : TrailEntry). (is_decision e ≡ false) × (e.level ≡ level_of earlier)) more
 
--- the entry's level is at most this
+-- Whether the entry's level is at most this one.
 abbrev pub is_up_to : ℕ → TrailEntry → Bool
 is_up_to level e = not (nat_lt level e.level)
 
--- what stands in a trail's type
+-- The invariant of a trail.
 pub record TrailHolds (clauses : Clauses) (vars : ℕ) (entries : List TrailEntry) (level : ℕ) : Type 0 where
   pub same_vars : clauses.vars ≡ vars
   pub within : ClausesWithin clauses.vars clauses.list
@@ -62,12 +64,12 @@ pub record TrailHolds (clauses : Clauses) (vars : ℕ) (entries : List TrailEntr
   pub levels : level ≡ level_of entries
   pub small : vars < 2 ^ 32
 
--- whether the last entry, if there is one, is above the level
+-- What the test of the last entry says: there is one, above the level; or none is above the level at the end.
 abbrev pub AboveIs : ℕ → List TrailEntry → Bool → Type 0
 AboveIs level entries true = (0 < length entries) × ((es : List TrailEntry) (e : TrailEntry) → entries ≡ es ++ e ∷ [] → level < e.level)
 AboveIs level entries false = (es : List TrailEntry) (e : TrailEntry) → entries ≡ es ++ e ∷ [] → e.level ≤ level
 
--- the later entries are the earlier ones without some at the end, which are above the level, and end with none above it
+-- Whether the later entries are the earlier ones without those at the end that are above the level. The last one left is not above it.
 pub record IsCut (level : ℕ) (earlier later : List TrailEntry) : Type 0 where
   pub gone : List TrailEntry
   pub splits : earlier ≡ later ++ gone

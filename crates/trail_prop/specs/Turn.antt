@@ -11,22 +11,23 @@ use Rattle.trail_prop.specs.declared.turn.ClauseTurn.TheVariants.{Holds, Moves, 
 use Rattle.trail_prop.specs.Open.{is_open}
 use Rattle.trail_prop.specs.Watching.{lit_at}
 
--- the place is one of the two
+-- Whether the place is one of the two.
 abbrev pub IsOneOf : ℕ → WatchPlaces → Type 0
 IsOneOf i p = (i ≡ p.first) ⊎ (i ≡ p.second)
 
--- two places of the clause, the first of which has the literal
+-- Whether these are two places of the clause, the first with the literal.
 abbrev pub SidesAre : List Lit → WatchPlaces → Lit → Option Sides → Type 0
 SidesAre clause p gone None = Unit {0}
 SidesAre clause p gone (Some s) = (s.mine < length clause) × (s.other < length clause) × (lit_at clause s.mine ≡ gone) × IsOneOf s.other p
 
--- all literals of the clause but this are false: it is false where that is false, and forces that where it is open
+-- Whether all literals of the clause except this one are false. If this one is false too, so is the clause; without a value, it is
+-- forced.
 pub record LeavesOnly (known clause : List Lit) (l : Lit) : Type 0 where
   pub has : has_lit clause l ≡ true
   pub fails : has_lit known (opposite l) ≡ true → is_false_clause known clause ≡ true
   pub forces : is_open known l ≡ true → forced_by known clause ≡ Some l
 
--- the clause may watch the new place, whose literal is not false, and goes on watching one of the old
+-- Whether the clause may watch the new place, whose literal is not false, and still watches one of the old places.
 pub record IsMove (known clause : List Lit) (p : WatchPlaces) (gone : Lit) (m : Moved) : Type 0 where
   pub new_within : m.places.first < length clause
   pub old_within : m.places.second < length clause
@@ -37,6 +38,8 @@ pub record IsMove (known clause : List Lit) (p : WatchPlaces) (gone : Lit) (m : 
   pub old : IsOneOf m.places.second p
   pub not_false : has_lit known (opposite m.lit) ≡ false
 
+-- What the turn of a clause says: its other watched literal is true, it can watch another place, all its other literals are false,
+-- or nothing.
 abbrev pub TurnIs : List Lit → List Lit → WatchPlaces → Lit → ClauseTurn → Type 0
 TurnIs known clause p gone (Holds l) = (has_lit clause l ≡ true) × (has_lit known l ≡ true)
 TurnIs known clause p gone (Moves m) = IsMove known clause p gone m

@@ -1,4 +1,5 @@
-//! The literals that are true, in order, and a mark for each.
+//! The true literals in order, with a mark for each literal and the place of each variable's entry, so that lookups take constant
+//! time.
 
 ghost use Rattle.std.specs.Prelude.{ℕ, ◌≡◌, ◌+◌, ◌-◌, ◌*◌, ◌<◌, ◌≤◌, ◌++◌, ◌∷◌, [], length, IfOk, IfSome, Some, None, true, false};
 ghost use Rattle.clause_db.specs.Clause.{has_lit, code_of};
@@ -12,7 +13,7 @@ use clause_db::lit::Lit;
 use std::alloc::{AllocError as NoMemory, Global};
 use std::marker::Model;
 
-/// The entries of a trail over variables 1 to `vars`, with room for one of each variable.
+/// The entries of a trail over the variables 1 to `vars`. Memory for one entry of each variable is reserved at the start.
 #[derive(Drop)]
 pub(crate) struct TrueLiterals {
     vars: u32,
@@ -32,7 +33,7 @@ impl Model for TrueLiterals {
     ghost invariant = { λ a. AssignmentHolds a.vars a.entries.items a.marks.items a.index.items (vec_capacity a.entries) };
 }
 
-/// The place of a literal's mark, or of its watches: two places for each variable.
+/// Returns the code of a literal: the index of its mark and of its watches. Each variable has two.
 pub(crate) fn code(lit: Lit) -> usize
     requires { HasCode lit }
     ensures { result ≡ code_of lit }
@@ -42,7 +43,7 @@ pub(crate) fn code(lit: Lit) -> usize
 }
 
 impl TrueLiterals {
-    /// No entry.
+    /// Returns an assignment without entries. Fails only if memory runs out.
     pub(crate) fn new(alloc: Global, vars: u32) -> Result<TrueLiterals, NoMemory>
         ensures { IfOk result (λ a. a ≡ record { vars = vars; entries = [] }) }
     {
@@ -63,21 +64,21 @@ impl TrueLiterals {
         })
     }
 
-    /// The number of variables.
+    /// Returns the number of variables.
     pub(crate) fn vars(&self) -> u32
         ensures { result ≡ self.now.vars }
     {
         self.vars
     }
 
-    /// The entries in order.
+    /// Lends the entries in order.
     pub(crate) fn entries(&self) -> &[TrailEntry]
         ensures { result.now ≡ self.now.entries }
     {
         &self.entries
     }
 
-    /// Whether a literal is true.
+    /// Checks whether a literal is true.
     pub(crate) fn is_true(&self, lit: Lit) -> bool
         requires { LitWithin self.now.vars lit }
         ensures { result ≡ has_lit (lits_of self.now.entries) lit }
@@ -85,7 +86,7 @@ impl TrueLiterals {
         self.marks[code(lit)]
     }
 
-    /// The entry of a variable, if it has one.
+    /// Returns the entry of a variable, if it has one.
     pub(crate) fn entry_of(&self, var: u64) -> Option<TrailEntry>
         requires from_one { 1 ≤ var }
         requires to_vars { var ≤ self.now.vars }
@@ -103,7 +104,7 @@ impl TrueLiterals {
         Some(entry)
     }
 
-    /// Puts an entry of an open variable after the last.
+    /// Appends an entry of a variable without a value. Takes no memory.
     pub(crate) fn push(&mut self, entry: TrailEntry)
         requires within { LitWithin self.old.vars entry.lit }
         requires opens { is_open (lits_of self.old.entries) entry.lit ≡ true }
@@ -117,7 +118,7 @@ impl TrueLiterals {
         }
     }
 
-    /// Takes the last entry away.
+    /// Removes the last entry and returns it.
     pub(crate) fn pop(&mut self) -> TrailEntry
         requires { 0 < length self.old.entries }
         ensures vars { self.new.vars ≡ self.old.vars }

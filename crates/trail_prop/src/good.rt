@@ -1,4 +1,4 @@
-//! Where a clause can be watched.
+//! The choice of two literals that a clause can watch.
 
 ghost use Rattle.std.specs.Prelude.{Option, ◌≡◌, ◌<◌, true, IfSome, None, Some};
 ghost use Rattle.clause_db.specs.Clauses.{LitWithin};
@@ -12,7 +12,7 @@ use crate::plain::PlainTrail;
 use crate::turn::WatchPlaces;
 use clause_db::lit::Lit;
 
-/// Whether some literal of the clause is true.
+/// Checks whether some literal of the clause is true. Only the answer `true` is specified.
 pub(crate) fn has_true(assigned: &TrueLiterals, clause: &[Lit]) -> bool
     requires { LitsWithin assigned.now.vars clause.now }
     ensures { result ≡ true → HasTrue (lits_of assigned.now.entries) clause.now }
@@ -25,8 +25,8 @@ pub(crate) fn has_true(assigned: &TrueLiterals, clause: &[Lit]) -> bool
     false
 }
 
-// Whether a clause may watch the literal: it is not false, or became so at the present level where the clause has a
-// true literal.
+// Whether a clause may watch the literal. The literal must not be false; or it became false at the present level, and the clause
+// has a true literal.
 fn is_good(plain: &PlainTrail, lit: Lit, holds: bool) -> bool
     requires { LitWithin plain.now.clauses.vars lit }
     ensures { result ≡ true → IsGood plain.now.entries holds lit }
@@ -40,7 +40,7 @@ fn is_good(plain: &PlainTrail, lit: Lit, holds: bool) -> bool
     }
 }
 
-// A place of the clause that may be watched beside this literal.
+// Returns a place of the clause that may be watched, with another literal than `beside`.
 fn good_place(plain: &PlainTrail, clause: &[Lit], holds: bool, beside: Option<Lit>) -> Option<usize>
     requires { LitsWithin plain.now.clauses.vars clause.now }
     ensures { IfSome result (λ at. IsGoodPlace plain.now.entries holds clause.now beside at) }
@@ -54,7 +54,7 @@ fn good_place(plain: &PlainTrail, clause: &[Lit], holds: bool, beside: Option<Li
     None
 }
 
-/// Two places of the clause that may be watched.
+/// Returns two places of the clause that may be watched.
 pub(crate) fn good_places(plain: &PlainTrail, clause: &[Lit]) -> Option<WatchPlaces>
     requires { LitsWithin plain.now.clauses.vars clause.now }
     ensures { IfSome result (AreGood plain.now.entries clause.now) }

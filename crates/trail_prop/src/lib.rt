@@ -1,7 +1,23 @@
-//! The trail of a conflict-driven solver: what is decided, and what clauses force, in order.
+//! The trail of a conflict-driven solver: decisions and forced literals in order, with propagation over watched clauses.
 //!
-//! It may call `clause_db` alone, and knows of no book and no query. `cdcl_prove` searches on it, and no check does. Read `entry` and
-//! `trail` first, then `plain`, then `watching`, with `watches`, `turn` and `look`, then `propagate`.
+//! Propagation is that of MiniSat (Eén and Sörensson 2003). Each clause watches two of its literals, and is visited only if one of
+//! them becomes false. As in later versions of MiniSat, a watch also names another literal of the clause. While this literal is
+//! true, the clause is not visited.
+//!
+//! This crate may call `clause_db` alone, and knows no book and no query. `cdcl_prove` searches on the trail; no check uses it. The
+//! modules in reading order:
+//!
+//! - `entry`: an entry of the trail, and a conflict.
+//! - `trail`: the trail as solvers see it.
+//! - `assignment`: the true literals, with constant-time lookup.
+//! - `look`: the state of one clause under the true literals.
+//! - `plain`: a trail without watches, whose propagation visits all clauses.
+//! - `watches`: the watches of each literal.
+//! - `turn`: what a clause does when a watched literal becomes false.
+//! - `good`: which two literals a clause can watch.
+//! - `watching`: a trail with watches.
+//! - `propagate`: propagation over watched clauses.
+//! - `within`: a test that callers need for the trail's precondition.
 #![tactic(auto)]
 
 mod assignment;

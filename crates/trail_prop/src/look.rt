@@ -1,4 +1,4 @@
-//! A look at one clause.
+//! The state of one clause under the true literals.
 
 ghost use Rattle.trail_prop.specs.Open.{LitsWithin};
 ghost use Rattle.trail_prop.specs.Entries.{lits_of};
@@ -7,7 +7,7 @@ ghost use Rattle.trail_prop.specs.Look.{ClauseLookIs};
 use crate::assignment::TrueLiterals;
 use clause_db::lit::Lit;
 
-/// What a clause says where some literals are true: it is false, it forces a literal, or neither.
+/// The state of a clause: it is false, it forces a literal, or neither.
 #[derive(Clone, Copy, Debug, PartialEq, Eq)]
 pub(crate) enum ClauseLook {
     False,
@@ -15,7 +15,7 @@ pub(crate) enum ClauseLook {
     Settled,
 }
 
-/// What a clause says where the literals of an assignment are true.
+/// Returns the state of a clause under an assignment.
 pub(crate) fn look_at(assigned: &TrueLiterals, clause: &[Lit]) -> ClauseLook
     requires { LitsWithin assigned.now.vars clause.now }
     ensures { ClauseLookIs (lits_of assigned.now.entries) clause.now result }

@@ -1,4 +1,4 @@
-//! A trail that looks at all its clauses to propagate.
+//! A trail without watches: propagation visits all clauses. `watching` adds the watches.
 
 ghost use Rattle.std.specs.Prelude.{◌≡◌, ◌+◌, ◌-◌, ◌<◌, ◌≤◌, ◌++◌, ◌∷◌, [], length, filter, IfOk, IfSome, IfNone, OnOk, OnErr, Some, None, true, false};
 ghost use Rattle.std.specs.List.{All};
@@ -18,7 +18,7 @@ use clause_db::lit::Lit;
 use std::alloc::{AllocError as NoMemory, Global};
 use std::marker::Model;
 
-/// Clauses, and the literals that are true by decisions and by them, in order.
+/// Clauses, and in order the literals that are true by decisions and by these clauses.
 #[derive(Drop)]
 pub struct PlainTrail {
     clauses: ClauseList,
@@ -36,7 +36,7 @@ impl Model for PlainTrail {
     ghost invariant = { λ t. TrailHolds t.clauses t.assigned.vars t.assigned.entries t.level };
 }
 
-/// What a part of propagation found: a false clause; that none is false and none forces; or that there is more to do.
+/// The outcome of one step of propagation: a false clause; that no clause is false and none forces a literal; or progress.
 #[derive(Clone, Copy, Debug, PartialEq, Eq)]
 pub(crate) enum PropagationStep {
     Found(Conflict),
@@ -44,7 +44,7 @@ pub(crate) enum PropagationStep {
     Moved,
 }
 
-/// Whether the last entry is above a level.
+/// Checks whether the last entry is above a level.
 fn is_above(assigned: &TrueLiterals, level: u32) -> bool
     ensures { AboveIs level assigned.now.entries result }
 {
@@ -57,7 +57,7 @@ fn is_above(assigned: &TrueLiterals, level: u32) -> bool
     }
 }
 
-/// Takes away the last entries while they are above a level.
+/// Removes the last entries while they are above a level.
 fn cut_above(assigned: &mut TrueLiterals, level: u32)
     ensures vars { assigned.new.vars ≡ assigned.old.vars }
     ensures cut { IsCut level assigned.old.entries assigned.new.entries }
@@ -68,7 +68,7 @@ fn cut_above(assigned: &mut TrueLiterals, level: u32)
 }
 
 impl PlainTrail {
-    /// No entry yet. The only error is want of memory.
+    /// Returns a trail of these clauses without entries. Fails only if memory runs out.
     pub fn new(alloc: Global, clauses: ClauseList) -> Result<PlainTrail, NoMemory>
         requires { ClausesWithin clauses.vars clauses.list }
         ensures { IfOk result (λ t. t ≡ record { clauses = clauses; entries = [] }) }
@@ -81,7 +81,7 @@ impl PlainTrail {
         })
     }
 
-    /// The clauses given and added.
+    /// Lends the clauses, those given first and those added.
     pub fn clauses(&self) -> &ClauseList
         ensures clauses { result.now ≡ self.now.clauses }
         ensures within { ClausesWithin self.now.clauses.vars self.now.clauses.list }
@@ -89,29 +89,29 @@ impl PlainTrail {
         &self.clauses
     }
 
-    /// The literals that are true.
+    /// Lends the true literals.
     pub(crate) fn assigned(&self) -> &TrueLiterals
         ensures { result.now ≡ record { vars = self.now.clauses.vars; entries = self.now.entries } }
     {
         &self.assigned
     }
 
-    /// The entries in order.
+    /// Lends the entries in order.
     pub fn entries(&self) -> &[TrailEntry]
         ensures { result.now ≡ self.now.entries }
     {
         self.assigned.entries()
     }
 
-    /// Does nothing, and answers nothing: it says of each trail that every entry has the number of decisions up to it, and is
-    /// decided, or forced by its clause and the entries before.
+    /// Proves of every trail that each entry has the number of decisions up to it. Each entry is a decision, or is forced by its
+    /// clause and the entries before it. Does nothing else.
     pub fn keeps_reasons(&self)
         ensures { IsTrail self.now.clauses self.now.entries }
     {
         let _assigned = &self.assigned;
     }
 
-    /// The number of decisions.
+    /// Returns the number of decisions.
     pub fn level(&self) -> u32
         ensures level { result ≡ level_of self.now.entries }
         ensures top { All (λ (e : TrailEntry). e.level ≤ level_of self.now.entries) self.now.entries }
@@ -119,7 +119,7 @@ impl PlainTrail {
         self.level
     }
 
-    /// What is known of a variable.
+    /// Returns the value of a variable, if it has one.
     pub fn value(&self, var: u64) -> Option<bool>
         ensures { result ≡ value_known (lits_of self.now.entries) var }
     {
@@ -143,7 +143,7 @@ impl PlainTrail {
         }
     }
 
-    /// Puts a clause after the last. The only error is want of memory, and it changes nothing.
+    /// Appends a clause. Fails only if memory runs out, and then changes nothing.
     pub fn add(&mut self, clause: &[Lit]) -> Result<(), NoMemory>
         requires { LitsWithin self.old.clauses.vars clause.now }
         ensures added { OnOk result (self.new ≡ record { clauses = record { vars = self.old.clauses.vars; list = self.old.clauses.list ++ clause.now ∷ [] }; entries = self.old.entries }) }
@@ -153,7 +153,7 @@ impl PlainTrail {
         Ok(())
     }
 
-    /// Opens a level with an open literal.
+    /// Opens a new level with a literal of a variable without a value.
     pub fn decide(&mut self, lit: Lit)
         requires within { LitWithin self.old.clauses.vars lit }
         requires opens { value_known (lits_of self.old.entries) lit.var ≡ None }
@@ -167,7 +167,7 @@ impl PlainTrail {
         });
     }
 
-    /// Puts a literal after the last that a clause forces.
+    /// Appends a literal that a clause forces.
     pub fn force(&mut self, lit: Lit, clause: u64)
         requires { forced_at (lits_of self.old.entries) (clause_at self.old.clauses.list clause) ≡ Some lit }
         ensures pushed { self.new ≡ record { clauses = self.old.clauses; entries = self.old.entries ++ record { lit = lit; level = level_of self.old.entries; reason = Some clause } ∷ [] } }
@@ -180,7 +180,7 @@ impl PlainTrail {
         });
     }
 
-    /// Looks once at each clause.
+    /// Visits each clause once.
     fn pass(&mut self) -> PropagationStep
         ensures clauses { self.new.clauses ≡ self.old.clauses }
         ensures grows { Grows self.old.entries self.new.entries }
@@ -206,7 +206,8 @@ impl PlainTrail {
         }
     }
 
-    /// Puts every literal on the trail that a clause forces, until a clause is false or none forces any more.
+    /// Appends every literal that a clause forces, until a clause is false or no clause forces a literal. Returns the false clause,
+    /// if there is one.
     pub fn propagate(&mut self) -> Option<Conflict>
         ensures clauses { self.new.clauses ≡ self.old.clauses }
         ensures grows { Grows self.old.entries self.new.entries }
@@ -222,7 +223,7 @@ impl PlainTrail {
         }
     }
 
-    /// Takes away the entries above a level.
+    /// Removes the entries above a level.
     pub fn backjump(&mut self, level: u32)
         requires { level ≤ level_of self.old.entries }
         ensures clauses { self.new.clauses ≡ self.old.clauses }

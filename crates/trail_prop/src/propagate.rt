@@ -1,4 +1,8 @@
 //! Propagation over watched clauses.
+//!
+//! The entries are visited in order. For each, the watches of the literal that it made false are visited. A clause that loses a
+//! watched literal watches another one, forces its last literal, or is false. Clauses that cannot be watched are pending, and are
+//! visited once all entries are done.
 
 ghost use Rattle.std.specs.Prelude.{◌≡◌, ◌+◌, ◌-◌, ◌<◌, length, if◌then◌else◌, IfOk, IfSome, IfNone, Some, None, true, false};
 ghost use Rattle.clause_db.specs.Clause.{clause_at, opposite, has_lit};
@@ -22,7 +26,8 @@ use crate::watching::Watching;
 use clause_db::lit::Lit;
 use std::alloc::AllocError as NoMemory;
 
-/// What became of a watch in the list of a literal that is false now.
+/// What happened to a watch in the list of a literal that is now false. Its clause is false, the watch stays, or it leaves the
+/// list.
 #[derive(Clone, Copy, Debug, PartialEq, Eq)]
 pub(crate) enum WatchMet {
     False(Conflict),
@@ -30,7 +35,8 @@ pub(crate) enum WatchMet {
     Leaves,
 }
 
-/// Puts every literal on the trail that a clause forces, until a clause is false or none forces any more.
+/// Appends every literal that a clause forces, until a clause is false or no clause forces a literal. Returns the false clause, if
+/// there is one. Fails only if memory runs out.
 pub(crate) fn propagate(watching: &mut Watching) -> Result<Option<Conflict>, NoMemory>
     ensures clauses { watching.new.trail.clauses ≡ watching.old.trail.clauses }
     ensures grows { Grows watching.old.trail.entries watching.new.trail.entries }
@@ -46,8 +52,8 @@ pub(crate) fn propagate(watching: &mut Watching) -> Result<Option<Conflict>, NoM
     }
 }
 
-// Propagates the entry at the head, or looks at the clauses that wait. Where the entry is not of the last level, which
-// is where a decision came before propagation was complete, looks at all clauses.
+// Visits the entry at the head, or the pending clauses if there is none. The entry is below the last level if a decision was made
+// before propagation was complete; all clauses are visited then.
 fn step(watching: &mut Watching) -> Result<PropagationStep, NoMemory>
     ensures clauses { watching.new.trail.clauses ≡ watching.old.trail.clauses }
     ensures grows { Grows watching.old.trail.entries watching.new.trail.entries }
@@ -62,7 +68,7 @@ fn step(watching: &mut Watching) -> Result<PropagationStep, NoMemory>
     visit(watching, entry.lit.opposite())
 }
 
-// Looks at all clauses.
+// Visits all clauses.
 fn scan(watching: &mut Watching) -> PropagationStep
     ensures clauses { watching.new.trail.clauses ≡ watching.old.trail.clauses }
     ensures grows { Grows watching.old.trail.entries watching.new.trail.entries }
@@ -74,7 +80,7 @@ fn scan(watching: &mut Watching) -> PropagationStep
     }
 }
 
-// Meets each watch of the literal that the entry at the head made false, and passes the entry.
+// Visits each watch of the literal that the entry at the head made false, and moves the head past the entry.
 fn visit(watching: &mut Watching, gone: Lit) -> Result<PropagationStep, NoMemory>
     requires within { LitWithin watching.old.trail.clauses.vars gone }
     requires stands { StandsAt watching.old.trail.entries watching.old.head (level_of watching.old.trail.entries) gone }
@@ -94,7 +100,7 @@ fn visit(watching: &mut Watching, gone: Lit) -> Result<PropagationStep, NoMemory
     Ok(PropagationStep::Moved)
 }
 
-// Looks at the clause of a watch, unless the literal that the watch names is true.
+// Visits the clause of a watch, unless the literal that the watch names is true.
 fn meet(watching: &mut Watching, gone: Lit, at: usize) -> Result<WatchMet, NoMemory>
     requires within { LitWithin watching.old.trail.clauses.vars gone }
     requires place { at < length (watches_at watching.old.lists gone) }
@@ -116,7 +122,7 @@ fn meet(watching: &mut Watching, gone: Lit, at: usize) -> Result<WatchMet, NoMem
     meet_long(watching, gone, at, watch)
 }
 
-// Forces the one literal of a clause that may be open, the others being false.
+// Forces the one literal of a clause that may have no value. All others are false.
 fn follow(watching: &mut Watching, gone: Lit, at: usize, watch: Watch, lit: Lit) -> WatchMet
     requires within { LitWithin watching.old.trail.clauses.vars lit }
     requires next { IsNextWatch watching.old gone at watch }
@@ -135,7 +141,7 @@ fn follow(watching: &mut Watching, gone: Lit, at: usize, watch: Watch, lit: Lit)
     WatchMet::Stays
 }
 
-// Looks at a clause of more than two literals.
+// Visits a clause of more than two literals.
 fn meet_long(
     watching: &mut Watching,
     gone: Lit,
@@ -166,7 +172,7 @@ fn meet_long(
     }
 }
 
-// Names the literal of a clause that may be open in its watch, and forces it.
+// Names the clause's remaining literal in its watch, and forces that literal.
 fn keep_on(watching: &mut Watching, gone: Lit, at: usize, watch: Watch, other: Lit) -> WatchMet
     requires next { IsNextLong watching.old gone at watch }
     requires other { LitWithin watching.old.trail.clauses.vars other }
@@ -183,7 +189,7 @@ fn keep_on(watching: &mut Watching, gone: Lit, at: usize, watch: Watch, other: L
     follow(watching, gone, at, named, other)
 }
 
-// Has the clause of a watch watch another literal.
+// Makes the clause of a watch watch another literal.
 fn rewatch(
     watching: &mut Watching,
     gone: Lit,
@@ -206,7 +212,7 @@ fn rewatch(
     Ok(WatchMet::Leaves)
 }
 
-// Looks at each clause that waits, and then has each that can be watched watch two literals.
+// Visits each pending clause, and then makes each that can be watched watch two literals.
 fn review(watching: &mut Watching) -> Result<PropagationStep, NoMemory>
     requires { watching.old.head ≡ length watching.old.trail.entries }
     ensures clauses { watching.new.trail.clauses ≡ watching.old.trail.clauses }
@@ -218,7 +224,7 @@ fn review(watching: &mut Watching) -> Result<PropagationStep, NoMemory>
     Ok(pass)
 }
 
-// Looks at each clause that waits.
+// Visits each pending clause.
 fn look_again(watching: &mut Watching) -> PropagationStep
     requires { watching.old.head ≡ length watching.old.trail.entries }
     ensures clauses { watching.new.trail.clauses ≡ watching.old.trail.clauses }
@@ -245,7 +251,7 @@ fn look_again(watching: &mut Watching) -> PropagationStep
     }
 }
 
-// Has each clause that waits and can be watched watch two literals, and forgets each that is true for good.
+// Makes each pending clause that can be watched watch two literals, and drops each that is true at level 0.
 fn take_up_all(watching: &mut Watching) -> Result<(), NoMemory>
     ensures trail { watching.new.trail ≡ watching.old.trail }
     ensures head { watching.new.head ≡ watching.old.head }
@@ -259,7 +265,7 @@ fn take_up_all(watching: &mut Watching) -> Result<(), NoMemory>
     Ok(())
 }
 
-// Whether the clause waits no longer.
+// Returns whether the clause is no longer pending.
 fn take_up(watching: &mut Watching, at: usize) -> Result<bool, NoMemory>
     requires { at < length watching.old.pending }
     ensures trail { watching.new.trail ≡ watching.old.trail }
@@ -279,7 +285,7 @@ fn take_up(watching: &mut Watching, at: usize) -> Result<bool, NoMemory>
     }
 }
 
-// Has a clause that waits watch two literals, where the numbers are small enough.
+// Makes a pending clause watch two literals, unless a number is too large for a watch.
 fn watch_two(
     watching: &mut Watching,
     at: usize,

@@ -1,4 +1,4 @@
-//! The trail: decisions, and the literals that clauses force.
+//! The trail as solvers see it: decisions, and the literals that clauses force.
 
 ghost use Rattle.std.specs.Prelude.{ℕ, ◌≡◌, ◌+◌, ◌≤◌, ◌++◌, ◌∷◌, [], filter, IfOk, IfSome, IfNone, OnOk, OnErr, None, Some};
 ghost use Rattle.clause_db.specs.Clause.{clause_at};
@@ -16,8 +16,8 @@ use clause_db::lit::Lit;
 use std::alloc::{AllocError as NoMemory, Global};
 use std::marker::Model;
 
-/// Clauses over variables 1 to `vars`, and the literals that are true by decisions and by the clauses, in order. Each
-/// clause watches two of its literals, so that propagation looks at the clauses of those that became false alone.
+/// Clauses over the variables 1 to `vars`, and in order the literals that are true by decisions and by these clauses. Each clause
+/// watches two of its literals, so propagation visits only the clauses whose watched literals become false.
 #[derive(Drop)]
 pub struct Trail {
     watching: Watching,
@@ -32,8 +32,8 @@ impl Model for Trail {
 }
 
 impl Trail {
-    /// The trail of these clauses without an entry; an error where there is no memory. It takes time and room for each
-    /// variable and clause; the first propagation looks at each clause once.
+    /// Returns a trail of these clauses without entries. Takes time and memory for each variable and clause; the first propagation
+    /// visits each clause once. Fails only if memory runs out.
     pub fn new(alloc: Global, clauses: ClauseList) -> Result<Trail, NoMemory>
         requires { ClausesWithin clauses.vars clauses.list }
         ensures { IfOk result (λ t. t ≡ record { clauses = clauses; entries = [] }) }
@@ -42,7 +42,7 @@ impl Trail {
         Ok(Trail { watching })
     }
 
-    /// The clauses given and added, numbered from 1.
+    /// Lends the clauses, those given first and those added, numbered from 1.
     pub fn clauses(&self) -> &ClauseList
         ensures clauses { result.now ≡ self.now.clauses }
         ensures within { ClausesWithin self.now.clauses.vars self.now.clauses.list }
@@ -50,38 +50,37 @@ impl Trail {
         self.watching.plain().clauses()
     }
 
-    /// The entries in order: each with the number of decisions up to it, and the number of the clause that forced it by
-    /// the entries before.
+    /// Lends the entries in order. Each has the number of decisions up to it, and the number of the clause that forced it by the
+    /// entries before.
     pub fn entries(&self) -> &[TrailEntry]
         ensures { result.now ≡ self.now.entries }
     {
         self.watching.plain().entries()
     }
 
-    /// Does nothing, and answers nothing: it says of each trail that every entry has the number of decisions up to it, and is
-    /// decided, or forced by its clause and the entries before, which callers need for their proofs alone.
+    /// Proves of every trail that each entry has the number of decisions up to it. Each entry is a decision, or is forced by its
+    /// clause and the entries before it. Does nothing else.
     pub fn keeps_reasons(&self)
         ensures { IsTrail self.now.clauses self.now.entries }
     {
         self.watching.plain().keeps_reasons();
     }
 
-    /// The number of decisions.
+    /// Returns the number of decisions.
     pub fn level(&self) -> u32
         ensures { result ≡ level_of self.now.entries }
     {
         self.watching.plain().level()
     }
 
-    /// Whether a variable is true or false, if that is known; none of a number that is no variable. It is one look into
-    /// an array.
+    /// Returns the value of a variable, or `None` if it has none or the number is not a variable's. Takes constant time.
     pub fn value(&self, var: u64) -> Option<bool>
         ensures { result ≡ value_known (lits_of self.now.entries) var }
     {
         self.watching.plain().value(var)
     }
 
-    /// The entry of a variable, if it has one. It is one look into an array.
+    /// Returns the entry of a variable, if it has one. Takes constant time.
     pub fn entry_of(&self, var: u64) -> Option<TrailEntry>
         requires from_one { 1 ≤ var }
         requires to_vars { var ≤ self.now.clauses.vars }
@@ -91,8 +90,7 @@ impl Trail {
         self.watching.plain().assigned().entry_of(var)
     }
 
-    /// Puts a clause after the last. The next propagation looks at it. Where there is no memory for it, the trail stays
-    /// as it was.
+    /// Appends a clause, which the next propagation visits. If memory runs out, the trail stays as it was.
     pub fn add(&mut self, clause: &[Lit]) -> Result<(), NoMemory>
         requires { LitsWithin self.old.clauses.vars clause.now }
         ensures added { OnOk result (self.new ≡ record { clauses = record { vars = self.old.clauses.vars; list = self.old.clauses.list ++ clause.now ∷ [] }; entries = self.old.entries }) }
@@ -101,7 +99,7 @@ impl Trail {
         self.watching.add(clause)
     }
 
-    /// Opens a level with a literal whose variable has no value. It takes no memory.
+    /// Opens a new level with a literal whose variable has no value. Takes no memory.
     pub fn decide(&mut self, lit: Lit)
         requires within { LitWithin self.old.clauses.vars lit }
         requires opens { value_known (lits_of self.old.entries) lit.var ≡ None }
@@ -110,10 +108,13 @@ impl Trail {
         self.watching.decide(lit);
     }
 
-    /// Puts every literal on the trail that a clause forces, each of the present level, until a clause is false or none
-    /// forces any more. The answer is a false clause; none, where no clause is false, and none has all its literals
-    /// false but one whose variable has no value; or an error where there is no memory, after which it may be called
-    /// again, and goes on.
+    /// Appends every literal that a clause forces, each at the present level, until a clause is false or no clause forces a
+    /// literal. Returns the false clause, if there is one. Otherwise no clause is false, and none has all literals false except one
+    /// without a value.
+    ///
+    /// # Errors
+    ///
+    /// Fails only if memory runs out. A further call continues from there.
     pub fn propagate(&mut self) -> Result<Option<Conflict>, NoMemory>
         ensures clauses { self.new.clauses ≡ self.old.clauses }
         ensures grows { Grows self.old.entries self.new.entries }
@@ -123,7 +124,7 @@ impl Trail {
         propagate(&mut self.watching)
     }
 
-    /// Takes away the entries above a level. It takes no memory, and time for each that is taken away.
+    /// Removes the entries above a level. Takes no memory, and time for each removed entry.
     pub fn backjump(&mut self, level: u32)
         requires { level ≤ level_of self.old.entries }
         ensures clauses { self.new.clauses ≡ self.old.clauses }

@@ -1,4 +1,4 @@
-//! What a clause does when one of the two literals that it watches becomes false.
+//! What a clause does when one of its two watched literals becomes false.
 
 ghost use Rattle.std.specs.Prelude.{◌≡◌, ◌<◌, true};
 ghost use Rattle.clause_db.specs.Clause.{has_lit, opposite};
@@ -18,7 +18,7 @@ pub(crate) struct WatchPlaces {
 }
 
 impl WatchPlaces {
-    /// No place in particular, for a clause that is not watched.
+    /// Returns arbitrary places, for a clause that is not watched.
     pub(crate) fn none() -> WatchPlaces
         ensures { result ≡ record { first = 0; second = 0 } }
     {
@@ -29,14 +29,14 @@ impl WatchPlaces {
     }
 }
 
-/// The place of the watched literal that became false, and that of the other.
+/// The place of the watched literal that became false, and the place of the other one.
 #[derive(Clone, Copy, Debug, PartialEq, Eq)]
 pub(crate) struct Sides {
     pub(crate) mine: usize,
     pub(crate) other: usize,
 }
 
-/// The places that a clause watches from now on, the new one first, and the literals there.
+/// The places that a clause watches next, the new one first, and the literals there.
 #[derive(Clone, Copy, Debug, PartialEq, Eq)]
 pub(crate) struct Moved {
     pub(crate) places: WatchPlaces,
@@ -44,8 +44,8 @@ pub(crate) struct Moved {
     pub(crate) other: Lit,
 }
 
-/// What a clause does: its other watched literal is true; it watches another literal; all its literals but the other
-/// watched one are false; or it can't be watched.
+/// What the clause does. `Holds`: its other watched literal is true. `Moves`: it watches another literal. `Leaves`: all its
+/// literals are false except the other watched one. `Lost`: it cannot be watched.
 #[derive(Clone, Copy, Debug, PartialEq, Eq)]
 pub(crate) enum ClauseTurn {
     Holds(Lit),
@@ -54,7 +54,7 @@ pub(crate) enum ClauseTurn {
     Lost,
 }
 
-// Which of the two places has this literal.
+// Returns the two places, first the one with this literal.
 fn sides_of(clause: &[Lit], places: WatchPlaces, gone: Lit) -> Option<Sides>
     ensures { SidesAre clause.now places gone result }
 {
@@ -76,7 +76,7 @@ fn sides_of(clause: &[Lit], places: WatchPlaces, gone: Lit) -> Option<Sides>
     None
 }
 
-// A place of the clause, other than these two, whose literal is not false.
+// Returns a place of the clause, other than these two, whose literal is not false.
 fn find_place(assigned: &TrueLiterals, clause: &[Lit], sides: Sides) -> Option<usize>
     requires { LitsWithin assigned.now.vars clause.now }
     ensures { FindIs (lits_of assigned.now.entries) clause.now sides.mine sides.other result }
@@ -89,7 +89,7 @@ fn find_place(assigned: &TrueLiterals, clause: &[Lit], sides: Sides) -> Option<u
     None
 }
 
-/// What a clause does that watches these places, now that this literal is false.
+/// Returns what a clause does that watches these places, now that this literal is false.
 pub(crate) fn turn_of(
     assigned: &TrueLiterals,
     clause: &[Lit],

@@ -1,4 +1,4 @@
-//! The clauses that watch each literal.
+//! The watches of each literal.
 
 ghost use Rattle.std.specs.Prelude.{◌≡◌, ◌+◌, ◌<◌, ◌++◌, ◌⊎◌, ◌∷◌, [], length, replicate, swap_remove, IfOk, IfSome, OnOk, OnErr, slice_index_or, slice_set};
 ghost use Rattle.trail_prop.specs.declared.watches.Watch.{Watch};
@@ -10,8 +10,8 @@ use clause_db::lit::Lit;
 use std::alloc::{AllocError as NoMemory, Global};
 use std::marker::Model;
 
-/// A clause by its number, and the code of one of its literals: where that is true, the clause needs no look. Where
-/// `pair` is set, the clause has no other literals than that and the one that is watched.
+/// A watch: a clause by its number, and the code of another literal of the clause. While that literal (the blocker) is true, the
+/// clause is not visited. If `pair` is set, the clause has only the blocker and the watched literal.
 #[derive(Clone, Copy, Debug, PartialEq, Eq)]
 pub(crate) struct Watch {
     pub(crate) clause: u32,
@@ -20,7 +20,7 @@ pub(crate) struct Watch {
 }
 
 impl Watch {
-    /// A watch of this clause, where the numbers are small enough for one.
+    /// Returns a watch of this clause, unless a number is too large for one.
     pub(crate) fn of(number: u64, blocker: Lit, pair: bool) -> Option<Watch>
         requires { HasCode blocker }
         ensures { IfSome result (λ w. (w.clause ≡ number) × (lit_of w.blocker ≡ blocker) × (w.pair ≡ pair)) }
@@ -38,7 +38,7 @@ impl Watch {
         })
     }
 
-    /// The same watch with this blocker, or as it was where the literal's code is too large for one.
+    /// Returns the watch with this blocker, or unchanged if the literal's code is too large for a watch.
     pub(crate) fn blocked_by(self, other: Lit) -> Watch
         requires { HasCode other }
         ensures same { (result.clause ≡ self.clause) × (result.pair ≡ self.pair) }
@@ -56,7 +56,7 @@ impl Watch {
         }
     }
 
-    /// The literal that saves the look.
+    /// Returns the blocker.
     pub(crate) fn blocker(self) -> Lit
         ensures { result ≡ lit_of self.blocker }
     {
@@ -67,7 +67,7 @@ impl Watch {
     }
 }
 
-/// For each literal's code the watches of that literal.
+/// The watches of each literal, by the literal's code.
 #[derive(Drop)]
 pub(crate) struct Watches {
     lists: Vec<Vec<Watch>>,
@@ -83,7 +83,7 @@ impl Model for Watches {
 }
 
 impl Watches {
-    /// No watch of as many literals.
+    /// Returns empty lists for this many literals. Fails only if memory runs out.
     pub(crate) fn new(alloc: Global, count: usize) -> Result<Watches, NoMemory>
         ensures { IfOk result (λ w. w ≡ replicate count []) }
     {
@@ -94,7 +94,7 @@ impl Watches {
         Ok(Watches { lists })
     }
 
-    /// The number of a literal's watches.
+    /// Returns the number of a literal's watches.
     pub(crate) fn len(&self, code: usize) -> usize
         requires { code < length self.now }
         ensures { result ≡ length (slice_index_or self.now code []) }
@@ -102,7 +102,7 @@ impl Watches {
         self.lists[code].len()
     }
 
-    /// A literal's watch at a place.
+    /// Returns a literal's watch at a place.
     pub(crate) fn at(&self, code: usize, at: usize) -> Watch
         requires { IsListed self.now code at }
         ensures { result ≡ slice_index_or (slice_index_or self.now code []) at result }
@@ -110,7 +110,7 @@ impl Watches {
         self.lists[code][at]
     }
 
-    /// Puts a watch after the last of a literal's.
+    /// Appends a watch to a literal's. Fails only if memory runs out, and then changes nothing.
     pub(crate) fn push(&mut self, code: usize, watch: Watch) -> Result<(), NoMemory>
         requires { code < length self.old }
         ensures pushed { OnOk result (self.new ≡ slice_set self.old code (slice_index_or self.old code [] ++ watch ∷ [])) }
@@ -122,7 +122,7 @@ impl Watches {
         }
     }
 
-    /// Puts a watch in the place of one of a literal's.
+    /// Replaces one of a literal's watches.
     pub(crate) fn set(&mut self, code: usize, at: usize, watch: Watch)
         requires { IsListed self.old code at }
         ensures { self.new ≡ slice_set self.old code (slice_set (slice_index_or self.old code []) at watch) }
@@ -130,7 +130,7 @@ impl Watches {
         self.lists[code][at] = watch;
     }
 
-    /// Takes one of a literal's watches away, and puts the last in its place.
+    /// Removes one of a literal's watches and returns it. The last one takes its place.
     pub(crate) fn remove(&mut self, code: usize, at: usize) -> Watch
         requires { IsListed self.old code at }
         ensures value { result ≡ slice_index_or (slice_index_or self.old code []) at result }

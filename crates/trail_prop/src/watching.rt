@@ -1,4 +1,4 @@
-//! The clauses on a trail, each of which waits for a look or watches two of its literals.
+//! A trail with watches: each clause is pending or watches two of its literals. `propagate` visits them.
 
 ghost use Rattle.std.specs.Prelude.{◌≡◌, ◌+◌, ◌-◌, ◌*◌, ◌<◌, ◌≤◌, ◌++◌, ◌∷◌, [], length, filter, IfOk, IfSome, IfNone, OnOk, OnErr, Some, None, true, slice_index_or, slice_set};
 ghost use Rattle.std.specs.List.{All};
@@ -21,8 +21,8 @@ use clause_db::lit::Lit;
 use std::alloc::{AllocError as NoMemory, Global};
 use std::marker::Model;
 
-/// A trail whose clauses each wait for a look, or are true for good, or watch two of their literals. The entries before
-/// the head are propagated: where one made a watched literal false, the clause has been true since.
+/// A trail whose clauses are each pending, true at level 0, or watched at two literals. The entries before the head are propagated:
+/// if one of them made a watched literal false, the clause has been true since.
 #[derive(Drop)]
 pub(crate) struct Watching {
     plain: PlainTrail,
@@ -42,7 +42,7 @@ impl Model for Watching {
     ghost invariant = { λ w. IsWatchful (record { trail = w.plain; lists = w.watches; places = w.places.items; pending = w.pending.items; head = w.head }) };
 }
 
-// The numbers of so many clauses.
+// Returns the numbers 1 to `count`.
 fn all_numbers(alloc: Global, count: u64) -> Result<Vec<u64>, NoMemory>
     ensures { IfOk result (λ numbers. AllWait count numbers.items) }
 {
@@ -53,7 +53,7 @@ fn all_numbers(alloc: Global, count: u64) -> Result<Vec<u64>, NoMemory>
     Ok(numbers)
 }
 
-// Places for so many clauses, none of which is watched yet.
+// Returns places for this many clauses, none of which is watched yet.
 fn no_places(alloc: Global, count: u64) -> Result<Vec<WatchPlaces>, NoMemory>
     ensures { IfOk result (λ places. length places.items ≡ count) }
 {
@@ -65,7 +65,7 @@ fn no_places(alloc: Global, count: u64) -> Result<Vec<WatchPlaces>, NoMemory>
 }
 
 impl Watching {
-    /// No entry yet, and each clause waits for a look.
+    /// Returns a trail without entries on which each clause is pending. Fails only if memory runs out.
     pub(crate) fn new(alloc: Global, clauses: ClauseList) -> Result<Watching, NoMemory>
         requires { ClausesWithin clauses.vars clauses.list }
         ensures { IfOk result (λ w. w.trail ≡ record { clauses = clauses; entries = [] }) }
@@ -84,7 +84,7 @@ impl Watching {
         })
     }
 
-    /// The clauses and the entries.
+    /// Lends the trail without its watches.
     pub(crate) fn plain(&self) -> &PlainTrail
         ensures plain { result.now ≡ self.now.trail }
         ensures watchful { IsWatchful self.now }
@@ -92,7 +92,7 @@ impl Watching {
         &self.plain
     }
 
-    /// The entry at the head, if not all are propagated.
+    /// Returns the entry at the head, unless all entries are propagated.
     pub(crate) fn next(&self) -> Option<TrailEntry>
         ensures { NextIs self.now result }
     {
@@ -105,7 +105,7 @@ impl Watching {
         }
     }
 
-    /// The number of the watches of a literal.
+    /// Returns the number of a literal's watches.
     pub(crate) fn count(&self, lit: Lit) -> usize
         requires { LitWithin self.now.trail.clauses.vars lit }
         ensures { result ≡ length (watches_at self.now.lists lit) }
@@ -113,7 +113,7 @@ impl Watching {
         self.watches.len(code(lit))
     }
 
-    /// The watch of a literal at a place.
+    /// Returns a literal's watch at a place.
     pub(crate) fn watch(&self, lit: Lit, at: usize) -> Watch
         requires within { LitWithin self.now.trail.clauses.vars lit }
         requires place { at < length (watches_at self.now.lists lit) }
@@ -123,7 +123,7 @@ impl Watching {
         self.watches.at(code(lit), at)
     }
 
-    /// The places that the clause of a number watches, if it does.
+    /// Returns the places that the clause of this number watches, if it is watched.
     pub(crate) fn places(&self, number: u64) -> WatchPlaces
         requires { IsNumber (length self.now.trail.clauses.list) number }
         ensures { result ≡ places_of self.now.places (number - 1) }
@@ -131,14 +131,14 @@ impl Watching {
         self.places[(number - 1) as usize]
     }
 
-    /// How many times a clause waits for a look.
+    /// Returns the number of pending clauses. A clause may be pending more than once.
     pub(crate) fn pending(&self) -> usize
         ensures { result ≡ length self.now.pending }
     {
         self.pending.len()
     }
 
-    /// The number of a clause that waits for a look.
+    /// Returns the number of the pending clause at a place.
     pub(crate) fn waiting(&self, at: usize) -> u64
         requires { at < length self.now.pending }
         ensures waits { IsWaiting self.now at result }
@@ -147,7 +147,7 @@ impl Watching {
         self.pending[at]
     }
 
-    /// Puts a clause after the last, which waits for a look.
+    /// Appends a clause, which is pending. Fails only if memory runs out.
     pub(crate) fn add(&mut self, clause: &[Lit]) -> Result<(), NoMemory>
         requires { LitsWithin self.old.trail.clauses.vars clause.now }
         ensures added { OnOk result (self.new.trail ≡ record { clauses = record { vars = self.old.trail.clauses.vars; list = self.old.trail.clauses.list ++ clause.now ∷ [] }; entries = self.old.trail.entries }) }
@@ -161,7 +161,7 @@ impl Watching {
         Ok(())
     }
 
-    /// Opens a level with a literal whose variable has no value.
+    /// Opens a new level with a literal whose variable has no value.
     pub(crate) fn decide(&mut self, lit: Lit)
         requires within { LitWithin self.old.trail.clauses.vars lit }
         requires opens { value_known (lits_of self.old.trail.entries) lit.var ≡ None }
@@ -170,7 +170,7 @@ impl Watching {
         self.plain.decide(lit);
     }
 
-    /// Takes away the entries above a level.
+    /// Removes the entries above a level.
     pub(crate) fn backjump(&mut self, level: u32)
         requires { level ≤ level_of self.old.trail.entries }
         ensures clauses { self.new.trail.clauses ≡ self.old.trail.clauses }
@@ -182,7 +182,7 @@ impl Watching {
         self.head = self.head.min(self.plain.entries().len());
     }
 
-    /// Propagates by looking at all clauses, and leaves the head where it is.
+    /// Propagates by visiting all clauses. The head stays.
     pub(crate) fn scan(&mut self) -> Option<Conflict>
         ensures clauses { self.new.trail.clauses ≡ self.old.trail.clauses }
         ensures grows { Grows self.old.trail.entries self.new.trail.entries }
@@ -192,7 +192,7 @@ impl Watching {
         self.plain.propagate()
     }
 
-    /// Puts a literal after the last that a clause forces.
+    /// Appends a literal that a clause forces.
     pub(crate) fn force(&mut self, lit: Lit, number: u64)
         requires { forced_at (lits_of self.old.trail.entries) (clause_at self.old.trail.clauses.list number) ≡ Some lit }
         ensures pushed { self.new ≡ onto self.old (record { clauses = self.old.trail.clauses; entries = self.old.trail.entries ++ record { lit = lit; level = level_of self.old.trail.entries; reason = Some number } ∷ [] }) }
@@ -201,7 +201,7 @@ impl Watching {
         self.plain.force(lit, number);
     }
 
-    /// Passes the entry at the head, once each clause that watches its opposite has a true literal.
+    /// Moves the head past its entry. Each clause that watches the entry's opposite must have a true literal.
     pub(crate) fn advance(&mut self, gone: Lit)
         requires stands { StandsAt self.old.trail.entries self.old.head (level_of self.old.trail.entries) gone }
         requires held { All (IsWatchHeld self.old) (watches_at self.old.lists gone) }
@@ -215,7 +215,7 @@ impl Watching {
         }
     }
 
-    /// Puts a watch in the place of another of the same clause.
+    /// Replaces a watch by another one of the same clause.
     pub(crate) fn put(&mut self, gone: Lit, at: usize, watch: Watch)
         requires stands { IsWatchOf self.old gone at watch.clause }
         requires fits { WatchFits self.old.trail.clauses.list gone watch }
@@ -224,7 +224,7 @@ impl Watching {
         self.watches.set(code(gone), at, watch);
     }
 
-    /// Puts a watch after the last of a literal's.
+    /// Appends a watch to a literal's. Fails only if memory runs out.
     pub(crate) fn hang(&mut self, lit: Lit, watch: Watch) -> Result<(), NoMemory>
         requires within { LitWithin self.old.trail.clauses.vars lit }
         requires fits { WatchFits self.old.trail.clauses.list lit watch }
@@ -235,7 +235,7 @@ impl Watching {
         Ok(())
     }
 
-    /// Has the clause of a watch wait for a look, and takes the watch away.
+    /// Makes the clause of a watch pending, and removes the watch. Fails only if memory runs out.
     pub(crate) fn shelve(&mut self, gone: Lit, at: usize, number: u64) -> Result<(), NoMemory>
         requires stands { IsWatchOf self.old gone at number }
         requires number { IsNumber (length self.old.trail.clauses.list) number }
@@ -247,7 +247,7 @@ impl Watching {
         Ok(())
     }
 
-    /// Takes away a watch whose clause watches another literal from now on.
+    /// Removes a watch whose clause watches another literal from now on.
     pub(crate) fn leave(&mut self, gone: Lit, at: usize, number: u64, moved: Moved)
         requires stands { IsWatchOf self.old gone at number }
         requires number { IsNumber (length self.old.trail.clauses.list) number }
@@ -262,7 +262,7 @@ impl Watching {
         let _watch = self.watches.remove(code(gone), at);
     }
 
-    /// Has a clause wait no longer that is true for good.
+    /// Removes a pending clause that is true at level 0.
     pub(crate) fn forget(&mut self, at: usize, number: u64)
         requires waits { IsWaiting self.old at number }
         requires fixed { IsFixed self.old.trail.entries (clause_of self.old.trail.clauses.list (number - 1)) }
@@ -273,7 +273,7 @@ impl Watching {
         let _number = self.pending.swap_remove(at);
     }
 
-    /// Has a clause wait no longer that is watched from now on.
+    /// Removes a pending clause that is watched from now on.
     pub(crate) fn settle(&mut self, at: usize, number: u64, places: WatchPlaces)
         requires waits { IsWaiting self.old at number }
         requires number { IsNumber (length self.old.trail.clauses.list) number }

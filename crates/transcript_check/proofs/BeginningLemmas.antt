@@ -1,4 +1,4 @@
--- Any first bytes of a sound transcript's text are a beginning without a fault.
+-- Any first bytes of a sound transcript's text are a beginning whose steps are valid.
 use Rattle.std.proofs.Common.{◌≡◌, ◌∙◌, ℕ, zero, suc, ◌+◌, Bool, true, false, if◌then◌else◌, List, [], ◌∷◌, ◌++◌, length, take, Option, None, Result, Ok, Err, refl, ap, subst, arith}
 use Rattle.std.specs.Prelude.{MatchResult}
 use Rattle.pack_defs.specs.declared.scenario.Scenario.{Scenario}
@@ -24,9 +24,9 @@ use Rattle.transcript_text.specs.Reading.{start_at, transcript_of, version_at}
 use Rattle.pack_defs.specs.Steps.{◌>>=◌}
 use Rattle.transcript_text.proofs.PrefixLaws.{prefix-first}
 
--- ---- the first steps of steps without a fault
+-- ---- the first steps of valid steps
 
--- another test than the one that is asked is a fault
+-- A test other than the one that is asked is an error.
 pub no-test : (step : ℕ) → not_shown_at step WrongTest ≡ None → ⊥
 no-test step e = absurd-fault (record { step = step; why = WrongTest }) e
 
@@ -34,7 +34,7 @@ pub if-none : (b : Bool) (step : ℕ) (o : Option NotShown) → (if b then o els
 if-none true step o e = (refl, e)
 if-none false step o e = absurd (no-test step e)
 
--- what is missing behind these steps is not within them
+-- A step that is missing after these steps is no error within them.
 end-behind : (k : ℕ) (ts : List ClockTest) → within_steps k (fault_at_end (k + 1) ts) ≡ None
 end-behind k [] = refl
 end-behind k (t ∷ ts) = within-behind k WrongTest
@@ -42,7 +42,7 @@ end-behind k (t ∷ ts) = within-behind k WrongTest
 and-none : (k : ℕ) → k ≡ k + 0
 and-none k = omega arith
 
--- nor behind these and no more
+-- The same, right after the last of them.
 end-there : (k : ℕ) (ts : List ClockTest) → within_steps (k + 0) (fault_at_end (k + 1) ts) ≡ None
 end-there k ts = subst (λ m. within_steps m (fault_at_end (k + 1) ts) ≡ None) (and-none k) (end-behind k ts)
 
@@ -52,7 +52,7 @@ shift k l = omega arith
 none-before : (n : ℕ) → 0 + n ≡ n
 none-before n = omega arith
 
--- of steps without a fault no first ones have one within them
+-- The first steps of valid steps are valid.
 first-steps : (sc : Scenario) (book : BookView) (n k : ℕ) (state : CoreState) (ts : List ClockTest) (xs : List TranscriptStep)
     → steps_fault sc book (k + 1) state ts xs ≡ None
     → within_steps (k + length (take n xs)) (steps_fault sc book (k + 1) state ts (take n xs)) ≡ None
@@ -80,7 +80,7 @@ first-steps sc book (suc n) k state ts (x ∷ xs) e =
         ∙ (ap (λ (o : Option Place). within_steps (k + suc (length first)) (step_fault_or (k + 1) o found)) both.0
         ∙ subst (λ m. within_steps m found ≡ None) (shift k (length first)) (more us both.1))
 
--- the same with the start before them
+-- The same with the start before them.
 first-part : (sc : Scenario) (book : BookView) (n : ℕ) (t : Transcript) → not_shown sc book t ≡ None
     → within_steps (length (take n t.steps)) (not_shown sc book (record { order = t.order; start = t.start; steps = take n t.steps })) ≡ None
 unfolding not_shown
@@ -94,7 +94,7 @@ first-part sc book n t e =
 
 -- ---- what is kept
 
--- two transcripts are equal where their parts are
+-- Two transcripts are equal if their parts are.
 same-transcript : (a b : Transcript) → a.order ≡ b.order → a.start ≡ b.start → a.steps ≡ b.steps → a ≡ b
 same-transcript a b p q r = λ i. record { order = p i; start = q i; steps = r i }
 
@@ -117,7 +117,7 @@ order-clean sc book order = refl
 
 -- ---- what reading a beginning comes to
 
--- what is answered, if anything is, is so
+-- Whether the result, if there is one, satisfies the predicate.
 abbrev So : (Prefix → Type 0) → Result Prefix TextErr → Type 0
 So P r = MatchResult r P (λ why. Unit {0})
 
@@ -133,7 +133,7 @@ steps-so : (P : Prefix → Type 0) (order : Order) (start : Shown) (r : Result S
 steps-so P order start (Ok more) h = h (record { order = order; start = start; steps = more.steps }) more.ended
 steps-so P order start (Err e) h = tt
 
--- it is nothing, an order alone, or the first part of a transcript
+-- A prefix is nothing, an order alone, or the first part of a transcript.
 pub prefix-cases : (P : Prefix → Type 0) (sc : Scenario) (book : BookView) (text : List ℕ) → P nothing_there → ((order : Order) → P (order_there order)) → ((t : Transcript) (ended : Bool) → P (transcript_there t ended))
     → So P (prefix_of sc book text)
 unfolding prefix_of start_there goes_on_there
@@ -142,7 +142,7 @@ prefix-cases P sc book text none ordered there =
     (λ version. if-so P (order_there version.0) (start_at sc version.1) _ (ordered version.0)
     (λ start. steps-so P version.0 start.0 (steps_there sc book (length start.1.left) 0 start.1) there))
 
--- ---- the whole
+-- ---- the complete text
 
 both : (sc : Scenario) (book : BookView) (t : Transcript) (r : Result Prefix TextErr) → MatchResult r (λ kept. IsPrefixOf kept t) (λ why. ⊥) → So (λ kept. IsPrefixOf kept t → not_kept sc book kept ≡ None) r
     → MatchResult r (λ kept. not_kept sc book kept ≡ None) (λ why. ⊥)

@@ -1,4 +1,4 @@
--- The record that a transcript shows is that of the auction that its steps led to its end.
+-- The record that a transcript shows is the record of the auction that its steps finish.
 use Rattle.std.proofs.Common.{◌≡◌, List, None, sum_by, refl, sym, ap, subst, ◌∙◌}
 use Rattle.pack_defs.specs.declared.scenario.Scenario.{Scenario}
 use Rattle.pack_defs.specs.Book.{BookView}
@@ -20,7 +20,7 @@ use Rattle.transcript_check.proofs.SoundLemmas.{same-again, transcript-order-sam
 use Rattle.auction_core.proofs.StartFaults.{start-shown}
 use Rattle.auction_core.proofs.WalkLemmas.{step_or-parts}
 
--- the record of this order, this start and these steps
+-- The record of this order, this start and these steps.
 made : Scenario → Order → Shown → List Step → Record
 made sc order start steps =
     let state = after_steps sc (after_start sc order start) steps in
@@ -33,12 +33,12 @@ made-is sc book t = refl
 same-made : (sc : Scenario) (o p : Order) (a b : Shown) (xs ys : List Step) → o ≡ p → a ≡ b → xs ≡ ys → made sc o a xs ≡ made sc p b ys
 same-made sc o p a b xs ys e f g = λ i. made sc (e i) (f i) (g i)
 
--- a transcript without a fault has none of its start
+-- The start of a valid transcript is valid.
 no-start-fault : (sc : Scenario) (book : BookView) (t : Transcript) → not_shown sc book t ≡ None → start_fault sc book t.start ≡ None
 unfolding not_shown
 no-start-fault sc book t e = (step_or-parts 0 (start_fault sc book t.start) (found_in sc book t) e).0
 
--- a backed record that was carried through, with a transcript's order, start and steps, is the transcript's
+-- A backed record of a finished auction with a transcript's order, start and steps is the transcript's record.
 pub record-is : (sc : Scenario) (book : BookView) (t : Transcript) (rec : Record) → IsAuction sc book → rec.order ≡ t.order → IsBacked sc book t.order rec → rec.ending ≡ Done → rec.start ≡ t.start → rec.steps ≡ steps_in t.steps
     → rec ≡ transcript_record sc book t
 record-is sc book t rec a order b done start steps =

@@ -1,4 +1,4 @@
--- A transcript is sound exactly where no step is the first that is not shown.
+-- A transcript is sound exactly if no step is the first one that is not shown.
 use Rattle.std.proofs.Common.{◌≡◌, List, [], ◌∷◌, map, None, sum_by, refl, sym, ap, subst, ◌∙◌}
 use Rattle.pack_defs.specs.declared.scenario.Scenario.{Scenario}
 use Rattle.pack_defs.specs.Book.{BookView}
@@ -24,7 +24,7 @@ use Rattle.transcript_check.specs.Sound.{transcript_record, IsSound}
 use Rattle.auction_core.proofs.WalkLemmas.{step_or-parts, followed, ruled}
 use Rattle.auction_core.proofs.StartFaults.{start-shown, start-none, start-walk, after_steps-order}
 
--- ---- the whole
+-- ---- the complete transcript
 
 carried : (sc : Scenario) (book : BookView) (t : Transcript) → IsWalked sc book t.start (after_steps sc (after_start sc t.order t.start) (steps_in t.steps)) (clock_tests sc t.order) → IsCarriedThrough sc book t.order (transcript_record sc book t)
 unfolding clock_rule asked_tests
@@ -72,11 +72,11 @@ numbered : (sc : Scenario) (book : BookView) (state : CoreState) (xs : List Step
 numbered sc book state [] = tt
 numbered sc book state (x ∷ xs) = (refl, numbered sc book (settled sc state (test_of x) x.shown) xs)
 
--- two records are equal where their parts are
+-- Two records are equal if their parts are.
 pub same-record : (a b : Record) → a.scenario ≡ b.scenario → a.order ≡ b.order → a.ending ≡ b.ending → a.start ≡ b.start → a.steps ≡ b.steps → a.map ≡ b.map → a.total ≡ b.total → a ≡ b
 same-record a b p o q r s m n = λ i. record { scenario = p i; order = o i; ending = q i; start = r i; steps = s i; map = m i; total = n i }
 
--- what a backed record that was carried through shows of its steps, whatever lists them as those of a transcript
+-- The steps of a backed record of a finished auction are valid, in any list that has them as a transcript's steps.
 rule-walked : (sc : Scenario) (book : BookView) (rec : Record) → IsAuction sc book → IsBacked sc book rec.order rec → rec.ending ≡ Done
     → IsWalked sc book rec.start (after_steps sc (after_start sc rec.order rec.start) rec.steps) (clock_tests sc rec.order)
 unfolding clock_rule asked_tests
@@ -116,7 +116,7 @@ transcript-sound sc book rec a b done = record {
   numbered = numbered sc book (after_start sc rec.order rec.start) rec.steps;
 }
 
--- its steps are the record's, and so is its start
+-- The steps and the start of the transcript are the record's.
 pub transcript-steps-same : (sc : Scenario) (book : BookView) (rec : Record) → steps_in (transcript_for sc book rec).steps ≡ rec.steps
 unfolding transcript_for
 transcript-steps-same sc book rec = same-steps sc book (opening_state sc) rec.steps

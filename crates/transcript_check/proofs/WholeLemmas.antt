@@ -1,4 +1,4 @@
--- What a whole sound transcript leaves: no test to ask, and its text is that of its record.
+-- A complete sound transcript leaves no test to run, and its text is the text of its record.
 use Rattle.std.proofs.Common.{◌≡◌, ◌∙◌, ℕ, ◌+◌, ◌<◌, ◌^◌, Bool, true, false, not, cond, ◌&&◌, if◌then◌else◌, List, [], ◌∷◌, ◌++◌, length, map, Contains, None, Ok, refl, sym, ap, subst, arith, append-nil}
 use Rattle.std.proofs.lemmas.List.Elements.{Contains-append_left}
 use Rattle.pack_defs.specs.declared.scenario.Scenario.{Scenario}
@@ -28,9 +28,9 @@ use Rattle.transcript_check.proofs.BeginningLemmas.{if-none, no-test}
 use Rattle.transcript_check.proofs.RecordLemmas.{record-is}
 use Rattle.transcript_check.proofs.SoundLemmas.{shown-sound}
 
--- ---- no test is left to ask
+-- ---- no test is left to run
 
--- two lists that agree on the tests that are asked under one of them ask the same
+-- Two lists that agree on the tests that are asked under one of them ask the same tests.
 asked-alike : (sc : Scenario) (book : BookView) (u v ts : List ClockTest) (st : ClockState) → ((t : ClockTest) → Contains (asked_from sc book u ts st) t → is_listed u t ≡ is_listed v t)
     → asked_from sc book u ts st ≡ asked_from sc book v ts st
 asked-alike sc book u v [] st h = refl
@@ -74,7 +74,7 @@ none-more sc book t rec more a e b done start steps =
     subst (λ (w : ClockTest). is_listed U w ≡ is_listed V w) is (listed x there ∙ sym (listed' x (Contains-append_left own more x there))) in
     none-behind own more (mine ∙ (asked-alike sc book U V ts st same ∙ sym theirs))
 
--- so the record is the transcript's
+-- So the record is the transcript's.
 pub none-other : (sc : Scenario) (book : BookView) (t : Transcript) (rec : Record) (more : List Step) → IsAuction sc book → not_shown sc book t ≡ None → IsBacked sc book t.order rec → rec.ending ≡ Done → rec.start ≡ t.start → rec.steps ≡ steps_in t.steps ++ more → rec ≡ transcript_record sc book t
 none-other sc book t rec more a e b done start steps =
     let none : more ≡ [] = none-more sc book t rec more a e b done start steps in
@@ -82,7 +82,7 @@ none-other sc book t rec more a e b done start steps =
 
 -- ---- the text of its record
 
--- the logs of steps without a fault are numbered as they have to be
+-- The logs of valid steps are numbered correctly.
 numbered : (sc : Scenario) (book : BookView) (step : ℕ) (state : CoreState) (ts : List ClockTest) (xs : List TranscriptStep) → steps_fault sc book step state ts xs ≡ None → AreNumbered sc book state xs
 unfolding steps_fault
 numbered sc book step state ts [] e = tt
@@ -101,12 +101,12 @@ numbered sc book step state ts (x ∷ xs) e =
         let parts = step_or-parts step (step_fault sc book state x) (steps_fault sc book (step + 1) next us xs) test.1 in
         ((step-shown sc book state x parts.0).1, more us parts.1)
 
--- so they are those of their steps' transcript
+-- So they are the logs of the transcript made of these steps.
 numbers-again : (sc : Scenario) (book : BookView) (state : CoreState) (xs : List TranscriptStep) → AreNumbered sc book state xs → transcript_steps sc book state.clock (steps_in xs) ≡ xs
 numbers-again sc book state [] h = refl
 numbers-again sc book state (x ∷ xs) h = λ i. record { step = x.step; firsts = sym h.0 i } ∷ numbers-again sc book (settled sc state (test_of x.step) x.step.shown) xs h.1 i
 
--- the transcript of its record is itself
+-- The transcript of its record is the transcript itself.
 pub transcript-back : (sc : Scenario) (book : BookView) (t : Transcript) → not_shown sc book t ≡ None → transcript_for sc book (transcript_record sc book t) ≡ t
 unfolding not_shown transcript_for
 transcript-back sc book t e =

@@ -1,4 +1,6 @@
-//! The check of a whole transcript.
+//! The check of a complete transcript. The auction is run again, but each query is settled by the transcript's step
+//! once its certificate is accepted, so no solver is run. `follow_whole` of `auction_core` does this; the calls here
+//! add the contract and the record.
 
 ghost use Rattle.std.specs.Prelude.{◌≡◌, IfErr, IfOk, None, Some};
 ghost use Rattle.auction_core.specs.Setup.{IsOfAuction};
@@ -15,18 +17,16 @@ use pack_defs::owners::Owners;
 use pack_defs::scenario::Scenario;
 use std::alloc::Global;
 
-/// Verifies a transcript of an auction of this scenario and book: its record, where the transcript is sound. The auction is
-/// carried out again, each query settled as the transcript says, where the certificate for it is let through; so no solver is
-/// asked, and certificates are moved into the record. It costs what the certificates cost to check, and what each query costs
-/// to put.
+/// Verifies a transcript of an auction of this scenario and book, and returns its record. Costs the check of each
+/// certificate and the set-up of each query. The certificates are moved into the record.
 ///
 /// # Errors
 ///
-/// The first step that is not shown, and why; or want of memory.
+/// The first step that is not shown, and why; or out of memory.
 ///
 /// # Example
 ///
-/// What the frozen stations of an auction are paid together, by its transcript's text, or the first step that isn't shown:
+/// The total that the frozen stations of an auction are paid, or the first step that is not shown:
 ///
 /// ```
 /// let transcript = read_transcript(alloc, text, &scenario, &book)?;
@@ -49,7 +49,7 @@ pub fn verify(
     ensures same { IfOk result (λ rec. rec ≡ transcript_record sc.now book.now transcript) }
     ensures why { IfErr result (λ e. Explains e (not_shown sc.now book.now transcript)) }
 {
-    // For its clause alone: that the book is in order, which the laws ask.
+    // Its contract has the book's order, which the laws need.
     book.keeps_order();
     let clockwork = follow_whole(alloc, book, sc, transcript)?;
     let scenario = sc.copy(alloc)?;
@@ -57,13 +57,13 @@ pub fn verify(
     Ok(record)
 }
 
-/// Verifies a transcript of the live auction of this scenario and book: its owners say these lines, and the stations' values
-/// stand for nothing. It does what `verify` does with the scenario of these owners, so a record that it gives has them. It
-/// costs a copy of the scenario and of the lines more than that.
+/// Verifies a transcript of the live auction of this scenario and book, whose owners answer with these lines; the
+/// stations' values are ignored. Does what `verify` does with the scenario of these owners, so the record has the
+/// owners. Costs a copy of the scenario and of the lines more.
 ///
 /// # Errors
 ///
-/// The first step that is not shown, and why; or want of memory.
+/// The first step that is not shown, and why; or out of memory.
 pub fn verify_live(
     alloc: Global,
     book: &Book,

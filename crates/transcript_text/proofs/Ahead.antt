@@ -1,4 +1,4 @@
--- Step after step, as far as lines are there: what it makes of all that comes behind.
+-- Reading step by step, as far as lines are complete, agrees with reading all lines at once.
 use Rattle.std.proofs.Common.{◌≡◌, ◌≤◌, ◌+◌, ◌∙◌, ℕ, zero, suc, Bool, true, false, List, [], ◌∷◌, ◌++◌, Option, Some, None, Result, Ok, Err, IfOk, if◌then◌else◌, refl, sym, ap, subst, arith, length, length-append, append_assoc, append-nil}
 use Rattle.pack_defs.specs.declared.scenario.Scenario.{Scenario}
 use Rattle.pack_defs.specs.declared.order.Order.{Order}
@@ -18,7 +18,7 @@ use Rattle.transcript_text.proofs.Fronts.{stops}
 use Rattle.transcript_text.proofs.StepLoop.{Fewer, next-truncated, step-fewer}
 use Rattle.transcript_text.proofs.Stays.{Stays, next-step-stays, opened-stays}
 
--- ---- any bound on the steps will do that is no less than the lines
+-- ---- any bound on the steps that is at least the number of lines gives the same result
 
 pub same-steps : (sc : Scenario) (book : BookView) (a b n : ℕ) (lines : LinesLeft) → length lines.left ≤ a → length lines.left ≤ b → steps_at sc book a n lines ≡ steps_at sc book b n lines
 unfolding steps_at
@@ -34,7 +34,7 @@ same-steps sc book (suc a) (suc b) n lines p q = go (next_step sc book n lines) 
     go (Ok (None, rest)) less same = refl
     go (Err e) less same = refl
 
--- the steps from the next one on
+-- The steps, with the next one taken first.
 steps-unrolled : (sc : Scenario) (book : BookView) (n : ℕ) (lines : LinesLeft)
     → steps_at sc book (length lines.left) n lines ≡ (next_step sc book n lines >>= λ next. step_or next.0 next.1 (λ rest. steps_at sc book (length rest.left) (n + 1) rest))
 unfolding steps_at
@@ -51,9 +51,9 @@ steps-unrolled sc book n lines = go lines.number lines.left
         step (Ok (None, rest)) less = refl
         step (Err e) less = refl
 
--- ---- a transcript goes on by its next step
+-- ---- a transcript continues with its next step
 
--- with one step more
+-- The transcript with another step.
 abbrev pub with_step : Transcript → TranscriptStep → Transcript
 with_step begun x = record { order = begun.order; start = begun.start; steps = begun.steps ++ x ∷ [] }
 
@@ -87,9 +87,9 @@ goes-by-step sc book begun whole lines =
     go (Ok (None, rest)) = ap (λ (t : Transcript). text_end whole rest >>= λ u. Ok t) (with-none begun)
     go (Err e) = refl
 
--- ---- steps that were read, whatever lines come behind
+-- ---- steps that were read, whatever lines follow
 
--- whatever comes behind, these steps and lines say what the first say
+-- Whether these steps and lines come to the same as the first, whatever lines follow.
 abbrev pub AreRead : Scenario → BookView → Transcript → LinesLeft → Transcript → LinesLeft → Type 0
 AreRead sc book begun lines now rest = (whole : Bool) (more : List (List ℕ)) → goes_on sc book begun whole (with_lines lines more) ≡ goes_on sc book now whole (with_lines rest more)
 
@@ -99,7 +99,7 @@ stays-ok more r s x rest h e = subst (λ r. Stays more r s) e h
 pub stays-fails : {A : Type 0} (more : List (List ℕ)) (r s : Result (A × LinesLeft) TextErr) (e : TextErr) → Stays more r s → r ≡ Err e → Stays more (Err e) s
 stays-fails more r s e h is = subst (λ r. Stays more r s) is h
 
--- the next step is asked for by another name of the same number and lines
+-- The same for equal counts and equal lines.
 pub asked-same : (P : Result (Option TranscriptStep × LinesLeft) TextErr → Type 0) (sc : Scenario) (book : BookView) (n m : ℕ) (asked rest : LinesLeft) → n ≡ m → asked ≡ rest → P (next_step sc book n asked) → P (next_step sc book m rest)
 asked-same P sc book n m asked rest p q h = subst (λ (r : LinesLeft). P (next_step sc book m r)) q (subst (λ (n : ℕ). P (next_step sc book n asked)) p h)
 
@@ -142,7 +142,7 @@ stop-at-end sc book now rest (BadLine n) e = tt
 stop-at-end sc book now rest Truncated e = λ u. e
 stop-at-end sc book now rest NoMemory e = tt
 
--- ---- where no line comes behind
+-- ---- no line follows
 
 pub with-nothing : (lines : LinesLeft) → with_lines lines [] ≡ lines
 with-nothing lines = ap (λ (left : List (List ℕ)). record { number = lines.number; left = left }) (append-nil lines.left)
@@ -174,7 +174,7 @@ all-read sc book begun lines whole x read waits = go x.ended refl
 pub fault-read : (sc : Scenario) (book : BookView) (begun : Transcript) (lines : LinesLeft) (whole : Bool) (why : TextErr) → ReadsOn sc book begun lines (Err why) → Fails why (goes_on sc book begun whole lines)
 fault-read sc book begun lines whole why read = subst (λ (ls : LinesLeft). Fails why (goes_on sc book begun whole ls)) (with-nothing lines) (read whole [])
 
--- ---- the whole text
+-- ---- the complete text
 
 abbrev begun-with : Order → Shown × LinesLeft → Result (Transcript × LinesLeft) TextErr
 begun-with order start = Ok (record { order = order; start = start.0; steps = [] }, start.1)
@@ -224,7 +224,7 @@ opened-fails sc book text why h = stops (λ o. goes_on sc book o.0 (is_whole tex
 pub transcript-begins : (sc : Scenario) (book : BookView) (text : List ℕ) → transcript_of sc book text ≡ begins sc book (is_whole text) (ended_lines text)
 transcript-begins sc book text = transcript-opened sc book text ∙ sym (begins-opened sc book (is_whole text) (ended_lines text))
 
--- the whole is read from where the first lines end, or is refused by their fault
+-- The complete text is read from where the first lines end, or fails with their error.
 pub begins-from : (sc : Scenario) (book : BookView) (lines : List (List ℕ)) (begun : Transcript) (rest : LinesLeft) (whole : Bool) (more : List (List ℕ))
     → opened_at sc lines ≡ Ok (begun, rest) → begins sc book whole (lines ++ more) ≡ goes_on sc book begun whole (with_lines rest more)
 begins-from sc book lines begun rest whole more e =

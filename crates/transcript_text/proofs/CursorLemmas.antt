@@ -1,4 +1,4 @@
--- What is left of a line.
+-- The remaining fields of a line, for the contracts of `fields`.
 use Rattle.std.proofs.Common.{◌≡◌, ◌≤◌, ◌<◌, ◌∷◌, ◌&&◌, [], ℕ, List, Bool, true, false, not, Option, Some, None, Result, Ok, Err, IfSome, refl, sym, arith, length, map, get_or, if◌then◌else◌, eq-eqb, ◌==◌, Bor}
 use Rattle.std.specs.Option.{option_map_or}
 use Rattle.std.specs.Prelude.{nat_le}
@@ -18,7 +18,7 @@ use Rattle.lrat_text.specs.Lines.{fields_of, pieces, is_space, onto_piece}
 use Rattle.transcript_text.specs.declared.error.TextErr.TheVariants.{BadLine}
 use Rattle.transcript_text.specs.Fields.{FieldsLeft, line_end}
 
--- there is always a piece
+-- A text always has a piece.
 pub some-piece : (p : ℕ → Bool) (xs : List ℕ) → is_empty (pieces p xs) ≡ false
 unfolding pieces
 some-piece p [] = refl
@@ -29,7 +29,7 @@ some-piece p (c ∷ xs) = go (p c) (pieces p xs)
     go false [] = refl
     go false (x ∷ more) = refl
 
--- the fields of what is left of a line
+-- The fields of what is left of a line.
 abbrev pub left_fields : Option (Bor (List ℕ)) → List (List ℕ)
 left_fields left = option_map_or (λ rest. fields_of rest.now) left []
 
@@ -42,12 +42,12 @@ left-some left rest e = rw e (some-piece is_space rest.now)
 pub left-gone : (left : Option (Bor (List ℕ))) → left ≡ None → left_fields left ≡ []
 left-gone left e = rw e refl
 
--- a part of a line that is left has a field
+-- A line that has a rest has a field.
 pub fields-left : (line : FieldsLeft) (n : ℕ) (rest : List ℕ) → n ≡ line.number → line.fields ≡ fields_of rest → line_end line ≡ Err (BadLine n)
 unfolding line_end
 fields-left line n rest e f = rw (f, some-piece is_space rest, e) refl
 
--- a number that is read is no greater than it may be
+-- A number that is read is at most `most`.
 pub natural-few : (most : ℕ) (word : List ℕ) → IfSome (natural most word) (λ n. n ≤ most)
 unfolding natural
 natural-few most word = go (not (is_empty word) && (all_ascii_digits word && nat_le (digits_value 10 word) most)) (λ h. leb-true (digits_value 10 word) most (and_parts _ _ (and_parts _ _ h).1).1)
@@ -56,7 +56,7 @@ natural-few most word = go (not (is_empty word) && (all_ascii_digits word && nat
     go true h = h refl
     go false h = tt
 
--- a search by a key tells whether the key is there
+-- A binary search by a key finds the key exactly if the list has it.
 pub has-key : {X : Type 0} (key : X → ℕ) (xs : List X) (k : ℕ) (r : Result ℕ ℕ) → is_ascending (map key xs) ≡ true → IsSearchInRange r (length xs) → IsBinarySearchResult (λ y. nat_cmp (key y) k) xs r → is_ok r ≡ is_in (map key xs) k
 has-key key xs k (Ok i) a range found =
     let within : i < length (map key xs) = omega (arith, range, length-map xs key) in

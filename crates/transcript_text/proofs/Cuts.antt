@@ -1,4 +1,4 @@
--- A text in two parts, of which the first ends with its last line.
+-- A text in two parts, the first of which ends with a line end; for the contracts of `pieces`.
 use Rattle.std.proofs.Common.{◌≡◌, ◌<◌, ◌≤◌, ◌-◌, ◌==◌, ◌&&◌, ◌∙◌, ℕ, zero, suc, Bool, true, false, List, [], ◌∷◌, ◌++◌, refl, sym, ap, subst, append_assoc, append-nil, arith, take, drop, length, if◌then◌else◌}
 use Rattle.std.proofs.lemmas.List.{drop_all, length-drop, take-append-drop, take_all}
 use Rattle.pack_defs.specs.Lists.{is_empty}
@@ -11,7 +11,7 @@ onto-append c true lines more some = refl
 onto-append c false [] more some = absurd cc (some refl)
 onto-append c false (line ∷ lines) more some = refl
 
--- a text that ends with its last line has one, unless it is empty
+-- A text that ends with a line end has a line, unless it is empty.
 some-line : (c : ℕ) (text : List ℕ) → is_whole (c ∷ text) ≡ true → is_empty (ended_lines (c ∷ text)) ≡ false
 unfolding is_whole ended_lines
 some-line c [] w = rw w refl
@@ -37,7 +37,7 @@ whole-append (c ∷ []) [] w = w
 whole-append (c ∷ []) (d ∷ more) w = refl
 whole-append (c ∷ d ∷ rest) more w = whole-append (d ∷ rest) more w
 
--- the end of a text is looked for a byte further to the left
+-- The search for the last line end moves one byte to the left.
 pub no-line-before : (end : ℕ) (text : List ℕ) → end < length text → is_whole (take (suc end) text) ≡ false → ended_lines (drop (suc end) text) ≡ [] → ended_lines (drop end text) ≡ []
 unfolding is_whole ended_lines
 no-line-before zero (c ∷ rest) less w h = rw (w, h) refl
@@ -67,7 +67,7 @@ lines-of-part end text w h =
 pub to-the-end : (k : ℕ) (text : List ℕ) → take (length text - k) (drop k text) ≡ drop k text
 to-the-end k text = take_all (length text - k) (drop k text) (omega (arith, length-drop k text))
 
--- ---- the whole part of a text, and other bytes behind it
+-- ---- the complete lines of a text, with other bytes after them
 
 pub kept-lines : (text part behind kept : List ℕ) → is_whole part ≡ true → ended_lines part ≡ ended_lines text → kept ≡ part ++ behind → HasLinesOf text behind kept
 kept-lines text part behind kept w l e = record {
@@ -75,7 +75,7 @@ kept-lines text part behind kept w l e = record {
   end = λ more. ap (λ (k : List ℕ). is_whole (k ++ more)) e ∙ ap is_whole (append_assoc part behind more) ∙ whole-append part (behind ++ more) w;
 }
 
--- a text that has a whole line has one, whatever comes behind it
+-- A text that has a complete line still has one with bytes after it.
 pub lines-stay : (text more : List ℕ) → is_empty (ended_lines text) ≡ false → is_empty (ended_lines (text ++ more)) ≡ false
 unfolding ended_lines
 lines-stay [] more some = absurd cc some

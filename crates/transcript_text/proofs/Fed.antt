@@ -1,4 +1,4 @@
--- What a reader of pieces makes of them.
+-- The incremental reader agrees with a reader of the complete text.
 use Rattle.std.proofs.Common.{◌≡◌, ◌∙◌, ◌&&◌, ℕ, Bool, true, false, List, [], ◌∷◌, ◌++◌, Result, Ok, Err, IfOk, sym, ap, subst, length, take, drop, append_assoc, append-nil, if◌then◌else◌}
 use Rattle.std.proofs.lemmas.List.{take-append-drop}
 use Rattle.pack_defs.specs.declared.scenario.Scenario.{Scenario}
@@ -24,7 +24,7 @@ use Rattle.transcript_text.proofs.Stays.{opened-stays}
 
 -- ---- from stage to stage
 
--- what was read of lines under another name, and seen from within
+-- The same reading, with equal lines and an equal result.
 read-seen : (sc : Scenario) (book : BookView) (begun : Transcript) (asked lines : LinesLeft) (x y : StepsSoFar) → asked ≡ lines → y ≡ x → ReadsOn sc book begun asked (Ok x) → ReadsOn sc book begun lines (Ok y)
 read-seen sc book begun asked lines x y p q read = subst (λ (y : StepsSoFar). ReadsOn sc book begun lines (Ok y)) (sym q) (subst (λ (ls : LinesLeft). ReadsOn sc book begun ls (Ok x)) p read)
 
@@ -101,7 +101,7 @@ opening-says sc book asked lines behind begun (Err e') p e h = tt
 
 -- ---- from bytes to bytes
 
--- a text in two parts, of which the first ends with its last line
+-- A text in two parts, the first of which ends with a line end.
 said-apart : (sc : Scenario) (book : BookView) (read : ReadSoFar) (text part behind : List ℕ) → text ≡ part ++ behind → is_whole part ≡ true
     → said_by sc book read text ≡ comes_to sc book read.stage (is_whole behind) (with_lines (record { number = read.number; left = ended_lines part }) (ended_lines behind))
 said-apart sc book read text part behind e w =
@@ -162,7 +162,7 @@ refused-faulty sc book read why is = record {
   there = λ more. refused-there sc book read why (read.left ++ more) is;
 }
 
--- a line behind the last one of a transcript is a fault, whatever comes behind it
+-- A line after the `end` line is invalid, whatever follows it.
 pub behind-faulty : (sc : Scenario) (book : BookView) (read : ReadSoFar) (t : Transcript) (line : List ℕ) (lines : List (List ℕ)) → read.stage ≡ Whole t → ended_lines read.left ≡ line ∷ lines → IsFaulty sc book read (BadLine read.number)
 unfolding comes_to comes_there
 behind-faulty sc book read t line lines is some =
@@ -204,7 +204,7 @@ has-fault sc book bytes old new why h fault is = record {
   there = λ more. h.there more ∙ fault.there more ∙ sym (refused-there sc book new why (new.left ++ more) is);
 }
 
--- ---- the end
+-- ---- `finish`
 
 says-all : (sc : Scenario) (book : BookView) (bytes : List ℕ) (read : ReadSoFar) (stage : Stage) → HasRead sc book bytes read → read.stage ≡ stage
     → transcript_of sc book bytes ≡ comes_to sc book stage (is_whole read.left) (record { number = read.number; left = ended_lines read.left })
@@ -249,7 +249,7 @@ pub refused-ends : (sc : Scenario) (book : BookView) (bytes : List ℕ) (read : 
 unfolding comes_to
 refused-ends sc book bytes read why h is = err-fails (transcript_of sc book bytes) why (says-all sc book bytes read (Refused why) h is)
 
--- ---- the end of a beginning
+-- ---- `finish_prefix`
 
 there-all : (sc : Scenario) (book : BookView) (bytes : List ℕ) (read : ReadSoFar) (stage : Stage) → HasRead sc book bytes read → read.stage ≡ stage
     → prefix_of sc book bytes ≡ comes_there sc book stage (record { number = read.number; left = ended_lines read.left })

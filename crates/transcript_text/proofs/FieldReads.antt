@@ -1,4 +1,4 @@
--- Lines and fields that are written, read again.
+-- Lines and fields that are written are read back.
 use Rattle.std.proofs.Common.{◌≡◌, ◌<◌, ◌≤◌, ◌+◌, ◌^◌, ◌∷◌, ◌++◌, [], ℕ, List, Bool, true, false, not, ◌&&◌, ◌==◌, if◌then◌else◌, Option, Some, Ok, refl, arith, length, get_or, ne_eqb, eq-eqb, decimal, inl, inr}
 use Rattle.std.specs.Prelude.{nat_lt}
 use Rattle.std.specs.List.{list_all}
@@ -16,11 +16,11 @@ use Rattle.transcript_text.specs.Fields.{LinesLeft, FieldsLeft, next_line, is_pl
 use Rattle.transcript_text.specs.Spelled.{IsStation, IsChannel, IsWorker}
 use Rattle.pack_defs.proofs.Words.{some-length}
 
--- the whole lines of a text, of which the first is the n-th
+-- The complete lines of a text, the first with number `n`.
 abbrev pub lines_at : ℕ → List ℕ → LinesLeft
 lines_at n text = record { number = n; left = ended_lines text }
 
--- these fields of the n-th line
+-- These fields of line `n`.
 abbrev pub fields_at : ℕ → List (List ℕ) → FieldsLeft
 fields_at n fields = record { number = n; fields = fields }
 
@@ -30,7 +30,7 @@ pub line-again : (n : ℕ) (field : List ℕ) (fields : List (List ℕ)) (rest :
     → next_line (lines_at n (line_of (field ∷ fields) ++ rest)) ≡ Ok (fields_at n (field ∷ fields), lines_at (n + 1) rest)
 line-again n field fields rest h = rw (fields-line (field ∷ fields) rest h, fields-again field fields h) refl
 
--- a text has no fewer whole lines with more before it
+-- A text has no fewer complete lines with more text before it.
 pub no-fewer : (xs ys : List ℕ) → length (ended_lines ys) ≤ length (ended_lines (xs ++ ys))
 unfolding ended_lines
 no-fewer [] ys = omega arith
@@ -41,7 +41,7 @@ no-fewer (c ∷ xs) ys = go (c == 10) (ended_lines (xs ++ ys)) (no-fewer xs ys)
     go false [] h = h
     go false (line ∷ lines) h = h
 
--- and fewer without its first line
+-- A text has fewer lines without its first.
 pub fewer : (field : List ℕ) (fields : List (List ℕ)) (xs ys : List ℕ) → AreFields (field ∷ fields)
     → length (ended_lines ys) < length (ended_lines (line_of (field ∷ fields) ++ (xs ++ ys)))
 fewer field fields xs ys h = rw (fields-line (field ∷ fields) (xs ++ ys) h) (omega (arith, no-fewer xs ys))
@@ -57,7 +57,7 @@ field-from word e =
     go [] h = tt
     go (c ∷ xs) h = let p = and_parts (nat_lt 32 c) (list_all (λ c. nat_lt 32 c) xs) h in (ltb-true 32 c p.0, go xs p.1)
 
--- a word that is written out is a field, by `refl`
+-- A word given as a literal is a field, by `refl`.
 pub literal : (word : List ℕ) → (not (is_empty word) && list_all (λ c. nat_lt 32 c) word) ≡ true → IsField word
 literal = field-from
 
@@ -93,7 +93,7 @@ minus : (field : List ℕ) → 0 < length field → (48 < get_or field 0 0) → 
 minus [] h big = absurd (omega arith)
 minus (d ∷ rest) h big = rw (ne_eqb d 48 (λ e. absurd (omega (arith, big, e)))) refl
 
--- a number from 1 behind a minus sign
+-- A number from 1 after a minus sign.
 pub minus-plain : (k : ℕ) → 1 ≤ k → k < 2 ^ 64 → is_plainly_spelled (45 ∷ decimal k) ≡ true
 minus-plain k low small = minus (decimal k) (some-length (decimal k) (decimal-field k small).1) (first_decimal k low small)
 

@@ -1,4 +1,4 @@
--- The fields of a line that was read are those that are written of what it says.
+-- The fields of a line that was read equal those that are written of the result.
 use Rattle.std.proofs.Common.{◌≡◌, ◌≤◌, ◌+◌, ◌∙◌, ◌∷◌, ◌++◌, [], ℕ, List, Bool, true, false, not, ◌==◌, if◌then◌else◌, Option, Some, None, Result, Ok, Err, refl, sym, ap, arith, length, eqb-true, eq-eqb, ne_eqb, decimal, inl, inr}
 use Rattle.std.specs.Prelude.{nat_le, nat_lt}
 use Rattle.std.specs.Str.{all_ascii_digits, bytes_eq}
@@ -47,7 +47,7 @@ joined-onto c [] h = absurd cc
 joined-onto c (p ∷ []) h = refl
 joined-onto c (p ∷ q ∷ ps) h = refl
 
--- the fields of a line, joined, are the line
+-- The fields of a line, joined with spaces, are the line.
 pub joined-fields : (line : List ℕ) → with_spaces (fields_of line) ≡ line
 unfolding pieces with_spaces
 joined-fields [] = refl
@@ -56,7 +56,7 @@ joined-fields (c ∷ line) = elim (cases_eq c 32) [
   | inr ne ↦ rw (ne_eqb c 32 ne) (joined-onto c (pieces is_space line) (some-piece is_space line) ∙ ap (λ (r : List ℕ). c ∷ r) (joined-fields line))
 ]
 
--- the text of the lines that are left
+-- The text of the lines that are left.
 abbrev pub left_text : LinesLeft → List ℕ
 left_text lines = ended lines.left
 
@@ -94,7 +94,7 @@ end-said line u e = empty-is line.fields (if-ok (is_empty line.fields) tt u (Bad
 
 -- ---- numbers
 
--- a plain spelling is the shortest one
+-- A plain spelling is the shortest.
 pub plain-shortest : (field : List ℕ) → is_plainly_spelled field ≡ true → is_shortest field ≡ true
 unfolding is_shortest
 plain-shortest [] h = absurd cc
@@ -119,7 +119,7 @@ unfolding natural
 natural-greatest most n word le is =
     rw (is.some, is.digits, le-leb (digits_value 10 word) greatest (omega (arith, le, is.within)), is.value) refl
 
--- a number that was read, in its one spelling
+-- A number that was read has one spelling.
 pub plain-number-said : (most n : ℕ) (field : List ℕ) → most ≤ greatest → plain_number most field ≡ Some n → field ≡ decimal n
 unfolding plain_number
 plain-number-said most n field le e = go (is_plainly_spelled field) refl e
@@ -141,7 +141,7 @@ number-said most line x le e =
     let b = found-said line.number (plain_number most a.0.0) a.0.1 x a.2 in
     field-said line a.0 a.1 ∙ ap (λ (w : List ℕ). w ∷ a.0.1.fields) (plain-number-said most x.0 a.0.0 le b.0) ∙ ap (λ (l : FieldsLeft). decimal x.0 ∷ l.fields) b.1
 
--- a number that is tested further
+-- A number that is read and then checked.
 tested-said : (most : ℕ) (test : ℕ → Bool) (line : FieldsLeft) (x : ℕ × FieldsLeft) (a : (y : ℕ × FieldsLeft) × (number_at most line ≡ Ok y) × ((if test y.0 then Ok y else Err (BadLine line.number)) ≡ Ok x)) → most ≤ greatest
     → line.fields ≡ decimal x.0 ∷ x.1.fields
 tested-said most test line x a le =
@@ -179,7 +179,7 @@ exactly-said n line rest le e =
 
 -- ---- fields of a log's line
 
--- what a field of a log's line says is written so
+-- A field of a log's line is what is written of its meaning.
 pub plain-field-said : (field : List ℕ) → IsWrittenAs field (plain_field field)
 unfolding plain_field
 plain-field-said field = go (is_plainly_spelled field) refl

@@ -1,4 +1,4 @@
--- What was read before, and what is still read.
+-- What was read before a loop's turn, joined with what is still read; for the loops of the readers.
 use Rattle.std.proofs.Common.{◌≡◌, ◌<◌, ◌≤◌, ◌+◌, ◌-◌, ◌∙◌, arith, subst, ℕ, suc, true, false, List, [], ◌∷◌, ◌++◌, Option, Some, None, Result, Ok, Err, refl, sym, ap, append_assoc, append-nil}
 use Rattle.pack_defs.specs.Lists.{is_empty}
 use Rattle.pack_defs.specs.declared.scenario.Scenario.{Scenario}
@@ -15,7 +15,7 @@ use Rattle.std.specs.Prelude.{codes}
 use Rattle.cert_types.specs.declared.answer.Receipt.{Receipt}
 use Rattle.transcript_text.specs.Reading.{FoundReceipt, receipt_at, receipts_at}
 
--- this, before what is read and left; and before what is read
+-- What is read, with these elements in front.
 abbrev pub in_front : {A S : Type 0} → List A → Result (List A × S) TextErr → Result (List A × S) TextErr
 in_front front read = read >>= λ x. Ok (front ++ x.0, x.1)
 
@@ -28,14 +28,14 @@ pub joined-steps : {A B C : Type 0} (r : Result A TextErr) (f : A → Result B T
 joined-steps (Ok x) f g = refl
 joined-steps (Err e) f g = refl
 
--- what stops a step stops the whole
+-- An error of a step is the error of the complete reading.
 pub stops : {A B : Type 0} (f : A → Result B TextErr) (e : TextErr) (read : Result A TextErr) (whole : Result B TextErr) → whole ≡ (read >>= f) → Fails e read → Fails e whole
 stops f Version read whole w h = w ∙ ap (λ r. r >>= f) h
 stops f (BadLine n) read whole w h = w ∙ ap (λ r. r >>= f) h
 stops f Truncated read whole w h = w ∙ ap (λ r. r >>= f) h
 stops f NoMemory read whole w h = tt
 
--- one more before what is read
+-- Another element in front of what is read.
 pub front-more : {A S : Type 0} (front : List A) (x : A) (rest : Result (List A × S) TextErr) → in_front (front ++ x ∷ []) rest ≡ in_front front (rest >>= λ r. Ok (x ∷ r.0, r.1))
 front-more front x (Ok r) = ap (λ xs. Ok (xs, r.1)) (append_assoc front (x ∷ []) r.0)
 front-more front x (Err e) = refl
@@ -44,12 +44,12 @@ pub before-more : {A : Type 0} (front : List A) (x : A) (rest : Result (List A) 
 before-more front x (Ok r) = ap (λ xs. Ok xs) (append_assoc front (x ∷ []) r)
 before-more front x (Err e) = refl
 
--- nothing before it
+-- No element in front.
 pub front-none : {A S : Type 0} (read : Result (List A × S) TextErr) → in_front [] read ≡ read
 front-none (Ok r) = refl
 front-none (Err e) = refl
 
--- a step, and then the rest: it goes on, and it stops
+-- A step and then the rest: the step succeeds, or it fails.
 pub goes-on : {A S : Type 0} (front : List A) (x : A) (s : S) (one : Result (A × S) TextErr) (many : S → Result (List A × S) TextErr) (now total : Result (List A × S) TextErr)
     → now ≡ (one >>= λ r. many r.1 >>= λ more. Ok (r.0 ∷ more.0, more.1)) → one ≡ Ok (x, s) → in_front front now ≡ total → in_front (front ++ x ∷ []) (many s) ≡ total
 goes-on front x s one many now total step e so =
@@ -60,7 +60,7 @@ pub stops-there : {A S : Type 0} (front : List A) (e : TextErr) (one : Result (A
 stops-there {A} {S} front e one many now total step fails so =
     stops {A = List A × S} (λ r. Ok (front ++ r.0, r.1)) e now total (sym so) (stops (λ r. many r.1 >>= λ more. Ok (r.0 ∷ more.0, more.1)) e one now step fails)
 
--- nothing is left to read
+-- Nothing is left to read.
 pub ends : {A S : Type 0} (front : List A) (s : S) (now total : Result (List A × S) TextErr) → now ≡ Ok ([], s) → in_front front now ≡ total → total ≡ Ok (front, s)
 ends front s now total e so = sym so ∙ ap (in_front front) e ∙ ap (λ xs. Ok (xs, s)) (append-nil front)
 
@@ -128,7 +128,7 @@ hints-none front n fields total e so = sym so ∙ rw e refl
 
 -- ---- logs, entries and moves
 
--- a line is read, and then what is behind it
+-- A line is read, and then the lines after it.
 tail-steps : {A B : Type 0} (r : Result (FieldsLeft × LinesLeft) TextErr) (one : FieldsLeft → Result A TextErr) (f : A → LinesLeft → Result B TextErr)
     → ((r >>= λ next. and_left next.1 (one next.0)) >>= λ x. f x.0 x.1) ≡ (r >>= λ next. one next.0 >>= λ x. f x next.1)
 tail-steps (Ok next) one f = go (one next.0)

@@ -1,4 +1,4 @@
--- The lines of maps, logs and receipts that are written, read again.
+-- The lines of maps, logs and receipts that are written are read back.
 use Rattle.std.proofs.Common.{◌≡◌, ◌≤◌, ◌+◌, ◌∙◌, ◌∷◌, ◌++◌, [], ℕ, suc, List, Bool, true, false, Option, Some, None, Result, Ok, refl, ap, arith, length, map, decimal, append_assoc, eq-eqb}
 use Rattle.std.specs.Prelude.{codes}
 use Rattle.std.specs.List.{flat_map, AllByRecursion}
@@ -18,7 +18,7 @@ use Rattle.transcript_text.specs.LogLines.{lits_at, hints_at, log_line, log_at, 
 use Rattle.transcript_text.specs.Spelled.{IsEntry, AreEntries, AreStations, IsHint, AreLines}
 use Rattle.transcript_text.proofs.FieldReads.{lines_at, fields_at, line-again, literal, word-again, end-again, decimal-plain, minus-plain, number-again, above-again, channel-again}
 
--- what was read of a text, and some rest of its lines behind it
+-- Whether reading returns this value and leaves the lines of the rest.
 abbrev pub Reads : {A : Type 0} → Result (A × LinesLeft) TextErr → A → List ℕ → Type 0
 Reads result value rest = (m : ℕ) × (result ≡ Ok (value, lines_at m rest))
 
@@ -137,7 +137,7 @@ log-again n number (line ∷ lines) rest h =
           ∙ rw (next, log-line-again n number line h.0.0 h.0.1 h.0.2, more.1) refl,
     )
 
--- the number of a log's first line
+-- The number of a log's first line.
 pub first-again : (n number : ℕ) (line : Line) (lines : List Line) (rest : List ℕ) → AreLines number (line ∷ lines)
     → next_line (lines_at n (log_text number (line ∷ lines) ++ rest)) ≡ Ok (fields_at n (log_fields number line), lines_at (n + 1) (log_text (number + 1) lines ++ rest))
 unfolding log_text

@@ -1,4 +1,4 @@
--- The lines of logs, maps and receipts that were read are those that are written of what they say.
+-- The lines of logs, maps and receipts that were read equal those that are written of the result.
 use Rattle.std.proofs.Common.{◌≡◌, ◌+◌, ◌∙◌, ◌∷◌, ◌++◌, [], ℕ, zero, suc, List, Bool, true, false, ◌==◌, if◌then◌else◌, Option, Some, None, Result, Ok, Err, refl, sym, ap, subst, arith, length, map, eqb-true, decimal, append_assoc}
 use Rattle.std.specs.Prelude.{codes}
 use Rattle.std.specs.List.{flat_map}
@@ -87,13 +87,13 @@ log-line-said number line said e =
     go m fields false p x h = absurd (err-ok (BadLine line.number) x h)
     go m fields true p x h = (eqb-true m number p, h)
 
--- a line, and then more
+-- A line, and then more lines.
 pub line-then : (lines : LinesLeft) (next : FieldsLeft × LinesLeft) (fields : List (List ℕ)) (text : List ℕ) (rest : LinesLeft) → next_line lines ≡ Ok next → next.0.fields ≡ fields → left_text next.1 ≡ text ++ left_text rest
     → left_text lines ≡ (line_of fields ++ text) ++ left_text rest
 line-then lines next fields text rest e f h =
     next-said lines next e ∙ ap (λ (fs : List (List ℕ)). line_of fs ++ left_text next.1) f ∙ ap (λ (t : List ℕ). line_of fields ++ t) h ∙ sym (append_assoc (line_of fields) text (left_text rest))
 
--- so many elements, which this is the text of
+-- Whether this is the text of a list of `k` elements.
 pub record IsListSaid {A : Type 0} (k : ℕ) (lines : LinesLeft) (xs : List A) (text : List ℕ) (rest : LinesLeft) : Type 0 where
   pub count : length xs ≡ k
   pub said : left_text lines ≡ text ++ left_text rest

@@ -1,4 +1,4 @@
--- The first field of a line, where it is a number that is read as it is walked along.
+-- The first field of a line, read as a number digit by digit; for the contracts of `log_field`.
 use Rattle.std.proofs.Common.{◌≡◌, ◌<◌, ◌≤◌, add-one, ◌+◌, ◌-◌, ◌∙◌, ◌∷◌, [], ℕ, List, true, false, zero, suc, Some, refl, sym, subst, arith, length, take, drop, get_or, ne_eqb, eq-eqb}
 use Rattle.std.specs.Char.{is_ascii_digit}
 use Rattle.std.specs.Str.{all_ascii_digits}
@@ -15,7 +15,7 @@ use Rattle.lrat_text.proofs.SplitLemmas.{piece-at, one-piece}
 use Rattle.transcript_text.specs.Fields.{IsNumeral, is_plainly_spelled, plain_field}
 use Rattle.transcript_text.proofs.FieldReads.{plain}
 
--- a digit is no greater byte than that of 9
+-- A digit's byte is at most that of 9.
 pub digit-most : (c : ℕ) → is_ascii_digit c ≡ true → c ≤ 57
 digit-most c h = leb-true c 57 (and_parts _ _ h).1
 
@@ -24,19 +24,19 @@ digit-no-space c h =
     let low = leb-true 48 c (and_parts _ _ h).0 in
     ne_eqb c 32 (λ e. absurd (omega (arith, low, e)))
 
--- no digit at the start of a text is a space
+-- No digit at the start of a text is a space.
 pub no-space : (text : List ℕ) (i : ℕ) → all_ascii_digits (take i text) ≡ true → (k : ℕ) → k < i → k < length text → is_space (get_or text k 0) ≡ false
 no-space [] i h k l m = absurd (omega (arith, m))
 no-space (c ∷ text) zero h k l m = absurd (omega (arith, l))
 no-space (c ∷ text) (suc i) h zero l m = digit-no-space c (and_parts _ _ h).0
 no-space (c ∷ text) (suc i) h (suc k) l m = no-space text i (and_parts _ _ h).1 k (omega (arith, l)) (omega (arith, m))
 
--- digits before a space are the first field
+-- Digits before a space are the first field.
 pub digits-space : (text : List ℕ) (i : ℕ) → i < length text → get_or text i 0 ≡ 32 → all_ascii_digits (take i text) ≡ true
     → fields_of text ≡ take i text ∷ fields_of (drop (suc i) text)
 digits-space text i h e d = piece-at is_space text i h (eq-eqb (get_or text i 0) 32 e) (λ k l. no-space text i d k l (omega (arith, l, h)))
 
--- digits to the end are the only one
+-- Digits up to the end are the only field.
 pub digits-end : (text : List ℕ) (i : ℕ) → length text ≤ i → all_ascii_digits (take i text) ≡ true → fields_of text ≡ take i text ∷ []
 digits-end text i h d =
     let all : take i text ≡ text = take_all i text h in
@@ -58,7 +58,7 @@ first-digit (c ∷ text) (suc i) some d ne =
     let low = leb-true 48 c (and_parts _ _ (and_parts _ _ d).0).0 in
     omega (arith, low, ne)
 
--- a value above 0 is of some digits
+-- A value above 0 has digits.
 pub some-digits : (ds : List ℕ) → 0 < digits_value 10 ds → 0 < length ds
 some-digits [] h = absurd (omega (arith, h))
 some-digits (c ∷ ds) h = omega arith
@@ -85,12 +85,12 @@ negative : (ds : List ℕ) (n : ℕ) → IsNumeral ds n → plain_field (45 ∷ 
 unfolding plain_field field_of
 negative ds n h = rw (minus-plain ds h.0 h.1, h.3, ne_eqb n 0 (λ e. absurd (omega (arith, e, h.4)))) refl
 
--- a minus sign before the first field is of it
+-- A minus sign before the first field belongs to the field.
 behind-minus : (text field : List ℕ) (fields : List (List ℕ)) → fields_of text ≡ field ∷ fields → fields_of (45 ∷ text) ≡ (45 ∷ field) ∷ fields
 unfolding pieces
 behind-minus text field fields e = rw e refl
 
--- a text without its first byte
+-- A text without its first byte.
 abbrev pub behind_first : List ℕ → List ℕ
 behind_first text = take (length text - 1) (drop 1 text)
 

@@ -1,4 +1,4 @@
--- The stations on air, by their standings.
+-- The stations on air, found by the standing at a station's place.
 use Rattle.std.proofs.Common.{◌≡◌, ◌∙◌, ℕ, zero, suc, ◌<◌, Bool, nat_lt, true, false, cond, ◌||◌, eqb, List, [], ◌∷◌, length, get_or, refl, ap, subst, arith}
 use Rattle.std.proofs.Common.{inl, inr}
 use Rattle.std.proofs.lemmas.Bool.{and_from, or_cases, or_left, or_right, lt-ltb, eq-eqb, ne_eqb, both_ways, false_from_ne_true}
@@ -9,12 +9,12 @@ use Rattle.pack_defs.specs.Lists.{is_ascending, is_in}
 use Rattle.pack_defs.proofs.Words.{ascending-rest, below-later}
 use Rattle.auction_core.specs.Clock.{on_air_by, stands_on_air, stations_by}
 
--- a number below all of an ascending list may stand before it
+-- A number below all of an ascending list may precede it.
 before : (f : ℕ) (xs : List ℕ) → ((y : ℕ) → is_in xs y ≡ true → f < y) → is_ascending xs ≡ true → is_ascending (f ∷ xs) ≡ true
 before f [] below a = refl
 before f (x ∷ xs) below a = and_from (nat_lt f x) (is_ascending (x ∷ xs)) (lt-ltb f x (below x (or_left (eqb x x) (is_in xs x) (eq-eqb x x refl)))) a
 
--- the stations that pass are among all
+-- The stations that pass a test are among all.
 stations_by-in : (p : ℕ → Standing → Bool) (fs : List ℕ) (xs : List Standing) (y : ℕ) → is_in (stations_by p fs xs) y ≡ true → is_in fs y ≡ true
 stations_by-in p [] xs y h = h
 stations_by-in p (f ∷ fs) [] y h = cc
@@ -27,7 +27,7 @@ stations_by-in p (f ∷ fs) (x ∷ xs) y h =
       | false ↦ λ k. or_right (eqb f y) (is_in fs y) (stations_by-in p fs xs y k)
     ]) h
 
--- and they ascend as all do
+-- They ascend if all do.
 stations_by-ascend : (p : ℕ → Standing → Bool) (fs : List ℕ) (xs : List Standing) → is_ascending fs ≡ true → is_ascending (stations_by p fs xs) ≡ true
 stations_by-ascend p [] xs a = refl
 stations_by-ascend p (f ∷ fs) [] a = refl
@@ -38,7 +38,7 @@ stations_by-ascend p (f ∷ fs) (x ∷ xs) a =
       | false ↦ rest
     ]
 
--- whether a station is on air, by the standing at its place
+-- A station is on air exactly if the standing at its place says so.
 pub on_air-at : (fs : List ℕ) (xs : List Standing) (i s : ℕ) (d : Standing) → is_ascending fs ≡ true → length xs ≡ length fs → i < length fs → get_or fs i 0 ≡ s → is_in (on_air_by fs xs) s ≡ stands_on_air (get_or xs i d)
 on_air-at [] xs i s d a same inside at = absurd (omega arith)
 on_air-at (f ∷ fs) [] i s d a same inside at = absurd (omega arith)
@@ -59,10 +59,10 @@ on_air-at (f ∷ fs) (x ∷ xs) (suc i) s d a same inside at =
       | false ↦ rest
     ]
 
--- a station that the list hasn't isn't on air
+-- A station that the list lacks is not on air.
 pub on_air-none : (fs : List ℕ) (xs : List Standing) (s : ℕ) → is_in fs s ≡ false → is_in (on_air_by fs xs) s ≡ false
 on_air-none fs xs s none = false_from_ne_true (is_in (on_air_by fs xs) s) (λ there. both_ways (is_in fs s) none (stations_by-in (λ f x. stands_on_air x) fs xs s there))
 
--- the stations on air ascend as all do
+-- The stations on air ascend if all do.
 pub on_air-ascend : (fs : List ℕ) (xs : List Standing) → is_ascending fs ≡ true → is_ascending (on_air_by fs xs) ≡ true
 on_air-ascend = stations_by-ascend (λ f x. stands_on_air x)

@@ -1,4 +1,4 @@
--- A beginning of a transcript against the whole: what is kept of it is the transcript's beginning.
+-- A beginning compared with the complete transcript: what is kept of the text is a beginning of the transcript.
 use Rattle.std.proofs.Common.{◌≡◌, ◌≢◌, ◌+◌, ◌∙◌, ◌==◌, ◌&&◌, ℕ, zero, suc, Bool, true, false, List, [], ◌∷◌, ◌++◌, Option, Some, None, Result, Ok, Err, if◌then◌else◌, refl, sym, ap, subst, length, take}
 use Rattle.std.specs.Prelude.{MatchResult}
 use Rattle.std.proofs.lemmas.Bool.{and_parts}
@@ -22,7 +22,7 @@ use Rattle.transcript_text.proofs.FieldSaid.{err-ok, if-ok, ok-same}
 use Rattle.transcript_text.proofs.Rising.{after-ok}
 use Rattle.transcript_text.proofs.Stays.{Stays, next-step-stays, start-stays, version-stays}
 
--- ---- no beginning is cut short
+-- ---- a beginning is never too short
 
 if-there-never : {A B : Type 0} (kept : B) (r : Result A TextErr) (f : A → Result B TextErr) → ((x : A) → f x ≢ Err Truncated) → if_there kept r f ≢ Err Truncated
 if-there-never kept (Ok x) f h = h x
@@ -68,7 +68,7 @@ prefix-never sc book text =
     (λ version. if-there-never (order_there version.0) (start_at sc version.1) _
     (λ start. then-never (steps_there sc book (length start.1.left) 0 start.1) _ (steps-never sc book (length start.1.left) 0 start.1) (λ more. ok-never _)))
 
--- ---- a whole transcript is all there
+-- ---- a complete transcript is kept completely
 
 steps-all : (sc : Scenario) (book : BookView) (most n : ℕ) (lines : LinesLeft) (x : List TranscriptStep × LinesLeft) → steps_at sc book most n lines ≡ Ok x → is_empty x.1.left ≡ true
     → steps_there sc book most n lines ≡ Ok (record { steps = x.0; ended = true })
@@ -107,9 +107,9 @@ prefix-all sc book text t e =
     ∙ ap (λ (r : Result StepsThere TextErr). r >>= λ more. Ok (transcript_there (record { order = version.0.0; start = start.0.0; steps = more.steps }) more.ended)) (steps-all sc book (length start.0.1.left) 0 start.0.1 steps.0 steps.1 parts.0)
     ∙ ap (λ (t : Transcript). Ok (transcript_there t true)) (ok-same (record { order = version.0.0; start = start.0.0; steps = steps.0.0 }) t u.2)
 
--- ---- the whole lines of a beginning are the first of the whole's
+-- ---- the complete lines of a beginning are the first lines of the text
 
--- the lines behind those of the first bytes
+-- The lines after those of the first bytes.
 lines_behind : List ℕ → List ℕ → List (List ℕ)
 lines_behind [] after = ended_lines after
 lines_behind (c ∷ before) after =
@@ -130,7 +130,7 @@ lines-apart (c ∷ before) after =
 
 -- ---- what is kept is a beginning
 
--- these steps are the first of those, and all where the `end` line is there
+-- Whether the kept steps are the first of these steps, and all of them if the `end` line was read.
 record IsFirstOf (kept : StepsThere) (steps : List TranscriptStep) : Type 0 where
   pub first : kept.steps ≡ take (length kept.steps) steps
   pub all : kept.ended ≡ true → kept.steps ≡ steps
@@ -180,20 +180,20 @@ steps-first sc book (suc a) (suc b) n lines more x e none =
     go (Err Truncated) s stays first h = none-first x.0
     go (Err NoMemory) s stays first h = absurd (err-ok NoMemory x (sym (ap from stays) ∙ h))
 
--- ---- the whole
+-- ---- the complete text
 
 abbrev IsFirstPart : Result Prefix TextErr → Transcript → Type 0
 IsFirstPart r t = MatchResult r (λ kept. IsPrefixOf kept t) (λ why. ⊥)
 
--- the transcript that is read from its steps on
+-- The transcript, read from its steps on.
 abbrev from_steps : Scenario → BookView → Bool → Order → Shown × LinesLeft → Result Transcript TextErr
 from_steps sc book whole order start = steps_at sc book (length start.1.left) 0 start.1 >>= λ steps. text_end whole steps.1 >>= λ u. Ok (record { order = order; start = start.0; steps = steps.0 })
 
--- and from its start on
+-- The transcript, read from its start on.
 abbrev from_start : Scenario → BookView → Bool → Order × LinesLeft → Result Transcript TextErr
 from_start sc book whole version = start_at sc version.1 >>= λ start. from_steps sc book whole version.0 start
 
--- what was read of the whole, and the whole's steps and end
+-- Whether the transcript has this order, this start and these steps.
 record IsFrom (order : Order) (start : Shown) (steps : List TranscriptStep × LinesLeft) (t : Transcript) : Type 0 where
   pub none : is_empty steps.1.left ≡ true
   pub same : record { order = order; start = start; steps = steps.0 } ≡ t
@@ -205,14 +205,14 @@ ends-so whole order start steps t e =
     let last = if-ok (is_empty steps.1.left && whole) tt u.0 (BadLine steps.1.number) u.1 in
     record { none = (and_parts (is_empty steps.1.left) whole last.0).0; same = ok-same (record { order = order; start = start; steps = steps.0 }) t u.2 }
 
--- the order of the whole is that of its first line
+-- The first line determines the order of the transcript.
 same-order : (sc : Scenario) (book : BookView) (whole : Bool) (version : Order × LinesLeft) (t : Transcript) → from_start sc book whole version ≡ Ok t → version.0 ≡ t.order
 same-order sc book whole version t e =
     let start = after-ok (start_at sc version.1) (λ start. from_steps sc book whole version.0 start) t e in
     let steps = after-ok (steps_at sc book (length start.0.1.left) 0 start.0.1) (λ steps. text_end whole steps.1 >>= λ u. Ok (record { order = version.0; start = start.0.0; steps = steps.0 })) t start.2 in
     ap (λ (t : Transcript). t.order) (ends-so whole version.0 start.0.0 steps.0 t steps.2).same
 
--- the whole's steps behind those that are there
+-- The steps that are kept are the first of the transcript's.
 with-steps : (order : Order) (start : Shown) (steps : List TranscriptStep) (r : Result StepsThere TextErr) → AreFirst r steps
     → IsFirstPart (r >>= λ more. Ok (transcript_there (record { order = order; start = start; steps = more.steps }) more.ended)) (record { order = order; start = start; steps = steps })
 with-steps order start steps (Ok kept) h = record {

@@ -22,7 +22,7 @@ use Rattle.transcript_text.proofs.FieldSaid.{err-ok, left_text, ok-same}
 use Rattle.transcript_text.proofs.Rising.{after-ok}
 use Rattle.transcript_text.proofs.TextSaid.{next-step-said, next_text, start-said, version-said}
 
--- a text that begins so
+-- Whether a text begins with `front`.
 record Begins (front text : List ℕ) : Type 0 where
   pub behind : List ℕ
   pub is : text ≡ front ++ behind
@@ -36,7 +36,7 @@ begins-then part front left text e h = record { behind = h.behind; is = e ∙ ap
 begins-of : (front middle text : List ℕ) → Begins front middle → Begins middle text → Begins front text
 begins-of front middle text h k = record { behind = h.behind ++ k.behind; is = k.is ∙ ap (λ (t : List ℕ). t ++ k.behind) h.is ∙ append_assoc front h.behind k.behind }
 
--- ---- a text begins with its whole lines
+-- ---- a text begins with its complete lines
 
 lines-begin : (text : List ℕ) → Begins (ended (ended_lines text)) text
 unfolding ended_lines
@@ -53,7 +53,7 @@ lines-begin (c ∷ rest) = go (c == 10) refl (lines-begin rest)
 
 -- ---- steps
 
--- the lines begin with those of these steps, after so many
+-- Whether the lines begin with those of the kept steps, after this many steps.
 AreKept : BookView → ℕ → LinesLeft → StepsThere → Type 0
 AreKept book n lines x = Begins (flat_map (step_text book) x.steps ++ last_text x.ended (n + length x.steps)) (left_text lines)
 
@@ -99,7 +99,7 @@ steps-kept sc book (suc most) n lines x le e =
     go (Err Truncated) said rec h = subst (AreKept book n lines) (ok-same no_more x h) (none-kept book n lines)
     go (Err NoMemory) said rec h = absurd (err-ok NoMemory x h)
 
--- ---- behind the first line
+-- ---- after the first line
 
 record IsKeptBehind (book : BookView) (order : Order) (lines : LinesLeft) (kept : Prefix) : Type 0 where
   pub named : kept.order ≡ Some order
@@ -132,7 +132,7 @@ behind-kept sc book order lines kept le e = go (start_at sc lines) (λ start. st
     go (Err Truncated) said h = subst (IsKeptBehind book order lines) (ok-same (order_there order) kept h) (record { named = refl; begins = begins-none (left_text lines) })
     go (Err NoMemory) said h = absurd (err-ok NoMemory kept h)
 
--- ---- the whole
+-- ---- the complete text
 
 first-kept : (book : BookView) (order : Order) (lines : LinesLeft) (text : List ℕ) (kept : Prefix) → text ≡ version_text order ++ left_text lines → IsKeptBehind book order lines kept → Begins (prefix_spelling book kept) text
 unfolding prefix_spelling

@@ -1,4 +1,4 @@
--- The steps that are there of a beginning, one after the other.
+-- The complete steps of a beginning, one after the other.
 use Rattle.std.proofs.Common.{◌≡◌, ◌≤◌, ◌+◌, ◌∙◌, ℕ, zero, suc, Bool, true, false, if◌then◌else◌, List, [], ◌∷◌, ◌++◌, Option, Some, None, Result, Ok, Err, refl, sym, ap, subst, arith, length, length-append, append_assoc}
 use Rattle.pack_defs.specs.declared.scenario.Scenario.{Scenario}
 use Rattle.pack_defs.specs.declared.order.Order.{Order}
@@ -20,7 +20,7 @@ use Rattle.transcript_text.proofs.Ahead.{stays-fails, stays-ok, with-none, with-
 use Rattle.transcript_text.proofs.Stays.{next-step-stays, opened-stays}
 use Rattle.transcript_text.proofs.StepLoop.{Fewer, next-truncated, step-fewer}
 
--- ---- any bound on the steps will do that is no less than the lines
+-- ---- any bound on the steps that is at least the number of lines gives the same result
 
 same-there : (sc : Scenario) (book : BookView) (a b n : ℕ) (lines : LinesLeft) → length lines.left ≤ a → length lines.left ≤ b → steps_there sc book a n lines ≡ steps_there sc book b n lines
 unfolding steps_there
@@ -36,7 +36,7 @@ same-there sc book (suc a) (suc b) n lines p q = go (next_step sc book n lines) 
     go (Ok (None, rest)) less same = refl
     go (Err e) less same = refl
 
--- the steps from the next one on
+-- The steps, with the next one taken first.
 there-unrolled : (sc : Scenario) (book : BookView) (n : ℕ) (lines : LinesLeft)
     → steps_there sc book (length lines.left) n lines ≡ if_there no_more (next_step sc book n lines) (λ next. there_or next.0 next.1 (λ rest. steps_there sc book (length rest.left) (n + 1) rest))
 unfolding steps_there
@@ -53,7 +53,7 @@ there-unrolled sc book n lines = go lines.number lines.left
         step (Ok (None, rest)) less = refl
         step (Err e) less = refl
 
--- ---- what is there goes on by the next step
+-- ---- a beginning continues with its next step
 
 abbrev turned_there : Scenario → BookView → Transcript → Option TranscriptStep × LinesLeft → Result Prefix TextErr
 turned_there sc book begun (None, rest) = text_end true rest >>= λ u. Ok (transcript_there begun true)
@@ -92,7 +92,7 @@ there-by-step sc book begun lines =
 
 -- ---- the loop over steps
 
--- whatever comes behind, these steps and lines have there what the first have
+-- Whether these steps and lines have the same complete steps as the first, whatever lines follow.
 abbrev pub AreThere : Scenario → BookView → Transcript → LinesLeft → Transcript → LinesLeft → Type 0
 AreThere sc book begun lines now rest = (more : List (List ℕ)) → goes_on_there sc book begun (with_lines lines more) ≡ goes_on_there sc book now (with_lines rest more)
 
@@ -120,7 +120,7 @@ stop-there sc book begun now lines rest (BadLine n) h e = λ more.
 stop-there sc book begun now lines rest Truncated h e = h
 stop-there sc book begun now lines rest NoMemory h e = λ more. tt
 
--- ---- where no line comes behind
+-- ---- no line follows
 
 there-with-nothing : (sc : Scenario) (book : BookView) (begun : Transcript) (lines : LinesLeft) → goes_on_there sc book begun lines ≡ goes_on_there sc book begun (with_lines lines [])
 there-with-nothing sc book begun lines = sym (ap (λ (ls : LinesLeft). goes_on_there sc book begun ls) (with-nothing lines))
@@ -143,7 +143,7 @@ all-there sc book begun lines x there waits = go x.ended refl
 pub fault-there : (sc : Scenario) (book : BookView) (begun : Transcript) (lines : LinesLeft) (why : TextErr) → AreStepsThere sc book begun lines (Err why) → Fails why (goes_on_there sc book begun lines)
 fault-there sc book begun lines why there = subst (λ (ls : LinesLeft). Fails why (goes_on_there sc book begun ls)) (with-nothing lines) (there [])
 
--- ---- a part that is there, and one that isn't
+-- ---- a part that is complete, and one that is not
 
 there-gives : {A B : Type 0} (kept : B) (r : Result A TextErr) (f : A → Result B TextErr) (x : A) (result : Result B TextErr) → r ≡ Ok x → Gives (λ p. p) (f x) result → Gives (λ p. p) (if_there kept r f) result
 there-gives kept r f x result e h = subst (λ r. Gives (λ p. p) (if_there kept r f) result) (sym e) h
@@ -177,9 +177,9 @@ unfolding prefix_of
 prefix-kept sc book text why kept result h k e =
     subst (Gives (λ (p : Prefix). p) (prefix_of sc book text)) (sym (e ∙ ap (λ (p : Prefix). kept_at p why) k)) (kept-gives nothing_there (version_at (ended_lines text)) _ why h)
 
--- ---- the whole, from where its first lines end
+-- ---- the complete text, from where its first lines end
 
--- what is there, where the opening comes to this
+-- The beginning, read from the result of its first line and its start.
 abbrev Opens : Scenario → BookView → Result (Transcript × LinesLeft) TextErr → Result Prefix TextErr → Type 0
 Opens sc book (Ok o) there = there ≡ goes_on_there sc book o.0 o.1
 Opens sc book (Err Version) there = there ≡ Err Version

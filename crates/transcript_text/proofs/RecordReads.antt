@@ -1,4 +1,4 @@
--- The transcript of a backed record that was carried through, read again.
+-- The transcript of a backed record of a finished auction is read back as itself.
 use Rattle.std.proofs.Common.{◌≡◌, ◌≤◌, ◌∙◌, ◌∷◌, [], ℕ, List, Bool, true, false, ◌||◌, ◌==◌, if◌then◌else◌, Option, Some, None, MatchOption, Ok, find, option_map, inl, inr, refl, sym, subst, arith, get_or}
 use Rattle.std.specs.List.{All, AllByRecursion}
 use Rattle.std.proofs.lemmas.List.{get_or_default}
@@ -64,7 +64,7 @@ shown-spelled sc book state x l n a ascends h = go (settled_unasked sc book stat
       | inr like ↦ subst (λ (s : Shown). IsShownSpelled sc book x.station s (firsts_of clauses s)) (sym (k ∙ like.1)) refl
     ]
 
--- a step's test is of a station of the scenario, in a round that a line can name
+-- Whether a step's test is of a station of the scenario, in a round that a line can name.
 abbrev IsOfTest : Scenario → Step → Type 0
 IsOfTest sc x = (is_in (facilities sc) x.station ≡ true) × (x.round ≤ greatest_u32)
 
@@ -109,7 +109,7 @@ start-spelled sc book (Refuted w how) l n a ascends h done = absurd cc
 start-spelled sc book (Outside proof) l n a ascends h done = absurd cc
 start-spelled sc book (Undecided receipts) l n a ascends h done = absurd cc
 
--- ---- the whole
+-- ---- the complete transcript
 
 record-spelled : (sc : Scenario) (book : BookView) (rec : Record) → IsBacked sc book rec.order rec → rec.ending ≡ Done → IsWithinLimits sc → IsNamed sc book → IsHeld rec → IsSpelled sc book (transcript_for sc book rec)
 unfolding transcript_for
@@ -124,6 +124,6 @@ record-spelled sc book rec backed done l n held =
       workers = omega (arith, l.workers);
     }
 
--- a backed record's transcript is read again as itself
+-- The transcript of a backed record is read back as itself.
 pub record-again : (sc : Scenario) (book : BookView) (rec : Record) → IsBacked sc book rec.order rec → rec.ending ≡ Done → IsWithinLimits sc → IsNamed sc book → IsHeld rec → transcript_of sc book (transcript_text sc book rec) ≡ Ok (transcript_for sc book rec)
 record-again sc book rec backed done l n held = transcript-again sc book (transcript_for sc book rec) (record-spelled sc book rec backed done l n held)

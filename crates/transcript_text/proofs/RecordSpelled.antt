@@ -1,4 +1,4 @@
--- The transcript of a backed record that was carried through can be written.
+-- The transcript of a backed record of a finished auction can be written.
 use Rattle.std.proofs.Common.{◌≡◌, ◌<◌, ◌≤◌, ◌+◌, ◌∷◌, ◌++◌, [], ℕ, zero, suc, List, Bool, true, false, ◌==◌, if◌then◌else◌, Option, Some, None, MatchOption, inl, inr, ◌⊎◌, refl, ap, subst, arith, length, map, eqb-true, eq-eqb}
 use Rattle.std.specs.Prelude.{nat_lt, slice_get}
 use Rattle.std.specs.List.{All, AllByRecursion, list_all}
@@ -46,7 +46,7 @@ use Rattle.auction_core.specs.LogNumbers.{clauses_in, first_number, first_of, fi
 use Rattle.transcript_text.proofs.Sizes.{clauses-most, few-channels, no-longer, variables-most}
 use Rattle.transcript_text.proofs.Writes.{budget-most, head-of, of-worker}
 
--- a set of stations of the scenario, ascending
+-- Whether the set has stations of the scenario only, and ascends.
 pub record IsKnown (sc : Scenario) (set : List ℕ) : Type 0 where
   pub rises : is_ascending set ≡ true
   pub known : (z : ℕ) → is_in set z ≡ true → is_in (facilities sc) z ≡ true
@@ -72,7 +72,7 @@ set-few sc set l k =
     let all = length-map sc.stations (λ x. x.id) in
     omega (arith, most, all, l.stations)
 
--- the lines of a log over a set have numbers, literals and hints that a text can name
+-- The numbers, literals and hints of a log over a set fit a text.
 log-lines : (number : ℕ) (lines : List Line) → AreSpelled number lines → AreLines number lines
 log-lines number [] h = tt
 log-lines number (line ∷ lines) h = ((h.0.0, h.0.1, hints line.hints h.0.2), log-lines (number + 1) lines h.1)
@@ -97,7 +97,7 @@ follows-log sc book set (line ∷ lines) l n k follows few = follows-lines sc bo
 
 -- ---- entries of a map
 
--- the first of these stations, if there is one, is above
+-- Whether the first of these stations, if there is one, is above this one.
 abbrev FirstAbove : Option ℕ → List (ℕ × ℕ) → Type 0
 FirstAbove above [] = Unit {0}
 FirstAbove above (x ∷ xs) = is_above above x.0 ≡ true
@@ -239,7 +239,7 @@ receipts-spelled sc book task (w ∷ ws) (x ∷ xs) l n k limits h =
     let rest = receipts-spelled sc book task ws xs l n k (All-tail IsWorkerWithinLimits w ws limits) h.1 in
     (ap suc rest.0, (receipt-spelled sc book task w x l n k (budget-most w (head-of IsWorkerWithinLimits w ws limits)) h.0, rest.1))
 
--- ---- what settles a query
+-- ---- how a query is settled
 
 outside-spelled : (sc : Scenario) (book : BookView) (set : List ℕ) (proof : OutsideProof) (o : Option ℕ) → IsWithinLimits sc → IsNamed sc book → IsKnown sc set → MatchOption o ⊥ (λ station. IsOutsideProof book set proof)
     → (length proof.log.lines ≤ most_counted) × IsOneLog (first_number (clauses_in book set) proof.log.lines ∷ []) proof.log.lines

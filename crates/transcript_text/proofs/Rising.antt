@@ -1,4 +1,4 @@
--- What is read ascends where it has to.
+-- Lists that were read ascend as their definitions demand.
 use Rattle.std.proofs.Common.{◌≡◌, ℕ, zero, suc, Bool, true, false, List, [], ◌∷◌, map, Option, Some, None, Result, Ok, Err, refl, subst, if◌then◌else◌}
 use Rattle.std.specs.Prelude.{nat_lt, codes}
 use Rattle.std.proofs.lemmas.Bool.{and_from}
@@ -11,12 +11,12 @@ use Rattle.pack_defs.specs.Steps.{◌>>=◌}
 use Rattle.transcript_text.specs.Fields.{LinesLeft, FieldsLeft, next_line, word_at, station_at, station_above, channel_at, line_end, is_above}
 use Rattle.transcript_text.specs.LogLines.{entry_at, entries_at, stations_at}
 
--- a step that was not refused, and what came of it
+-- A chain of two calls that succeeded: the result of the first, and the second's success on it.
 pub after-ok : {A B : Type 0} (r : Result A TextErr) (f : A → Result B TextErr) (y : B) → (r >>= f) ≡ Ok y → (x : A) × (r ≡ Ok x) × (f x ≡ Ok y)
 after-ok (Ok x) f y h = (x, refl, h)
 after-ok (Err e) f y h = absurd cc
 
--- each is above the one before it
+-- Whether each number is above the one before it.
 abbrev pub Rises : Option ℕ → List ℕ → Type 0
 Rises above [] = Unit {0}
 Rises above (s ∷ ss) = (is_above above s ≡ true) × Rises (Some s) ss

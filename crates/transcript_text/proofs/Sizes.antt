@@ -1,4 +1,4 @@
--- How many variables and clauses the formula of a set has, at most.
+-- Bounds on the variables and clauses of a set's formula.
 use Rattle.std.proofs.Common.{◌≡◌, ◌∙◌, ◌≤◌, ◌+◌, ◌*◌, ◌∷◌, [], ℕ, List, Bool, true, false, eqb, refl, sym, ap, arith, length, length-append, map, filter}
 use Rattle.std.specs.Prelude.{count_by, nat_lt}
 use Rattle.std.specs.List.{flat_map}
@@ -13,7 +13,7 @@ use Rattle.cnf_encode.proofs.AscendingLemmas.{count-most}
 use Rattle.cnf_encode.proofs.CountLemmas.{formula-counted}
 use Rattle.auction_core.specs.LogNumbers.{clauses_in}
 
--- an ascending list of numbers up to 51
+-- An ascending list of numbers up to 51 is short.
 short : (x : ℕ) (xs : List ℕ) → is_ascending (x ∷ xs) ≡ true → ((c : ℕ) → is_in (x ∷ xs) c ≡ true → c ≤ 51) → length (x ∷ xs) + x ≤ 52
 short x [] a within = let here = within x (or_left (eqb x x) false (eq-eqb x x refl)) in omega (arith, here)
 short x (y ∷ ys) a within =
@@ -35,7 +35,7 @@ kept-all p (x ∷ xs) h =
 all-count : (p : ℕ → Bool) (xs : List ℕ) → ((z : ℕ) → is_in xs z ≡ true → p z ≡ true) → count_by p xs ≡ length xs
 all-count p xs h = sym (length-filter p xs) ∙ ap length (kept-all p xs h)
 
--- an ascending list among another one is no longer
+-- An ascending list whose numbers are all in another list is no longer than that list.
 pub no-longer : (all set : List ℕ) → is_ascending set ≡ true → ((z : ℕ) → is_in set z ≡ true → is_in all z ≡ true) → length set ≤ length all
 no-longer all set a within =
     let most = count-most all set a in

@@ -1,4 +1,4 @@
--- What is read of some lines is read of them where more lines stand behind them.
+-- A call that succeeds on some lines succeeds with the same result when more lines follow.
 use Rattle.std.proofs.Common.{◌≡◌, ◌+◌, ◌==◌, ℕ, zero, suc, Bool, true, false, List, [], ◌∷◌, ◌++◌, Option, Some, None, Result, Ok, Err, refl, sym, ap, subst, length, if◌then◌else◌}
 use Rattle.std.specs.Prelude.{codes}
 use Rattle.std.specs.Str.{bytes_eq}
@@ -17,7 +17,7 @@ use Rattle.transcript_text.specs.LogLines.{log_at, log_line, entries_at, entry_a
 use Rattle.transcript_text.specs.Reading.{some_log, numbered_log, lines_receipt, moves_receipt, receipt_count, receipt_by, receipt_at, receipts_at, head_at, fit_step, log_step, outside_step, undecided_step, step_at, next_step, order_of, version_or, version_at, fit_start, empty_start, start_at}
 use Rattle.transcript_text.specs.Pieces.{opened_at, with_lines}
 
--- the second reading, with these lines behind, gives what the first gave, unless the first wants more lines
+-- Whether the second reading equals the first with these lines after what is left, unless the first lacks lines.
 abbrev pub Stays : {A : Type 0} → List (List ℕ) → Result (A × LinesLeft) TextErr → Result (A × LinesLeft) TextErr → Type 0
 Stays more (Ok x) read = read ≡ Ok (x.0, with_lines x.1 more)
 Stays more (Err Version) read = read ≡ Err Version
@@ -39,7 +39,7 @@ fault-stays A more (BadLine n) = refl
 fault-stays A more Truncated = tt
 fault-stays A more NoMemory = refl
 
--- a step that touches no lines
+-- A step that reads no lines.
 any-stays : {A B : Type 0} (more : List (List ℕ)) (r : Result A TextErr) (f g : A → Result (B × LinesLeft) TextErr) → ((x : A) → Stays more (f x) (g x)) → Stays more (r >>= f) (r >>= g)
 any-stays more (Ok x) f g k = k x
 any-stays {B = B} more (Err e) f g k = fault-stays B more e

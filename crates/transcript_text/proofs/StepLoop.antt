@@ -1,4 +1,4 @@
--- Reading goes forward: a step takes a line at least.
+-- Reading makes progress: a step takes a line at least. The loop over steps needs this for its bound.
 use Rattle.std.proofs.Common.{◌≡◌, ◌<◌, ◌≤◌, ◌+◌, ◌==◌, ℕ, zero, suc, Bool, true, false, List, [], ◌∷◌, Option, Some, None, Result, Ok, Err, refl, subst, arith, length, if◌then◌else◌}
 use Rattle.std.specs.Prelude.{codes}
 use Rattle.std.specs.Str.{bytes_eq}
@@ -15,7 +15,7 @@ use Rattle.transcript_text.specs.Fields.{LinesLeft, FieldsLeft, next_line, next_
 use Rattle.transcript_text.specs.LogLines.{log_at, log_line, entries_at, entry_at, moves_at, stations_at}
 use Rattle.transcript_text.specs.Reading.{some_log, numbered_log, lines_receipt, moves_receipt, receipt_count, receipt_by, receipt_at, receipts_at, head_at, fit_step, log_step, outside_step, undecided_step, step_at, next_step}
 
--- no more lines are left than before, where the step wasn't refused
+-- Whether no more lines are left than before, if the call succeeds.
 abbrev pub NoMore : {A : Type 0} → LinesLeft → Result (A × LinesLeft) TextErr → Type 0
 NoMore lines (Ok x) = length x.1.left ≤ length lines.left
 NoMore lines (Err e) = Unit {0}
@@ -111,7 +111,7 @@ step-no-more sc book (Undecided test) lines =
     no-more-then lines (undecided_step sc test lines) _ (no-more-then lines (receipts_at sc 0 (length sc.workers) lines) _ (receipts-no-more sc 0 (length sc.workers) lines) (λ found. same found.1)) (λ x. same x.1)
 step-no-more sc book End lines = same lines
 
--- fewer, where the step wasn't refused
+-- Whether fewer lines are left than before, if the call succeeds.
 abbrev pub Fewer : {A : Type 0} → LinesLeft → Result (A × LinesLeft) TextErr → Type 0
 Fewer lines (Ok x) = length x.1.left < length lines.left
 Fewer lines (Err e) = Unit {0}
@@ -134,6 +134,6 @@ unfolding next_step
 next-truncated sc book steps n [] h = refl
 next-truncated sc book steps n (line ∷ left) h = absurd (omega (arith, h))
 
--- a step that was read took a line
+-- A step that was read took a line.
 pub took-line : {A : Type 0} (lines : LinesLeft) (r : Result (A × LinesLeft) TextErr) (x : A) (after : LinesLeft) → Fewer lines r → r ≡ Ok (x, after) → length after.left < length lines.left
 took-line lines r x after h e = subst (Fewer lines) e h

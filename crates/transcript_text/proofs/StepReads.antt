@@ -1,4 +1,4 @@
--- The steps that are written, read again.
+-- The text of a step is read back as the step.
 use Rattle.std.proofs.Common.{◌≡◌, ◌<◌, ◌≤◌, ◌+◌, ◌^◌, ◌∙◌, ◌∷◌, ◌++◌, [], ℕ, suc, List, false, Some, Ok, refl, sym, ap, subst, arith, length, map, decimal, append_assoc, ne_eqb, ◌==◌}
 use Rattle.std.specs.Prelude.{codes}
 use Rattle.std.specs.List.{flat_map}
@@ -159,7 +159,7 @@ end-head sc steps n = rw (word-again n (decimal steps) [], end-again n) refl
 
 -- ---- a step
 
--- a step that was read, with fewer lines left
+-- Whether reading returns this step and leaves fewer lines.
 pub record IsRead (sc : Scenario) (book : BookView) (steps n : ℕ) (text rest : List ℕ) (x : TranscriptStep) : Type 0 where
   pub number : ℕ
   pub read : next_step sc book steps (lines_at n (text ++ rest)) ≡ Ok (Some x, lines_at number rest)
@@ -171,7 +171,7 @@ two round station more hr hs h = (decimal-field round (omega (arith, hr)), (deci
 pub one : (k : ℕ) → k < 2 ^ 64 → AreFields (decimal k ∷ [])
 one k h = (decimal-field k h, tt)
 
--- from the parts of a step's text
+-- A step is read from the parts of its text.
 pub from-parts : (sc : Scenario) (book : BookView) (steps n : ℕ) (field : List ℕ) (fields : List (List ℕ)) (more rest : List ℕ) (head : Head) (x : TranscriptStep) → AreFields (field ∷ fields)
     → head_at sc steps (fields_at n (field ∷ fields)) ≡ Ok head
     → Reads (step_at sc book head (lines_at (n + 1) (more ++ rest))) (Some x) rest

@@ -1,4 +1,4 @@
--- The steps that were read are those that are written of what they say.
+-- The text of the steps that were read equals the text that is written of the result.
 use Rattle.std.proofs.Common.{◌≡◌, ◌≤◌, ◌+◌, ◌∙◌, ◌∷◌, ◌++◌, [], ℕ, zero, suc, List, Bool, true, false, ◌==◌, if◌then◌else◌, Result, Ok, Err, refl, sym, ap, subst, arith, length, eqb-true, decimal, append_assoc}
 use Rattle.std.specs.Prelude.{codes}
 use Rattle.std.specs.List.{flat_map}
@@ -47,7 +47,7 @@ numbered-said k lines x e = go (k == 0) refl e
 abbrev IsReceiptSaid : ℕ → LinesLeft → FoundReceipt × LinesLeft → Type 0
 IsReceiptSaid worker lines x = left_text lines ≡ receipt_text worker x.0.receipt x.0.first ++ left_text x.1
 
--- what stands behind a receipt's first line, of this word and count
+-- Whether what follows a receipt's first line, of this word and count, is the text of what was read.
 abbrev IsBodySaid : ℕ → List ℕ → ℕ → LinesLeft → FoundReceipt × LinesLeft → Type 0
 IsBodySaid worker word k lines x = line_of (word ∷ decimal worker ∷ decimal k ∷ []) ++ left_text lines ≡ receipt_text worker x.0.receipt x.0.first ++ left_text x.1
 
@@ -102,7 +102,7 @@ receipt-said sc worker lines x le e =
     field-said next.0.0 word.0 word.1 ∙ ap (λ (r : List (List ℕ)). word.0.0 ∷ r) (count-said worker word.0.1 k.0 le k.1) in
     next-said lines next.0 next.1 ∙ ap (λ (fs : List (List ℕ)). line_of fs ++ left_text next.0.1) fields ∙ by-said sc lines.number worker word.0.0 k.0 next.0.1 x k.2
 
--- the receipts of so many workers
+-- Whether these lines are the text of the receipts of `k` workers.
 pub record AreReceiptsSaid (worker k : ℕ) (lines : LinesLeft) (x : (List Receipt × List ℕ) × LinesLeft) : Type 0 where
   pub count : length x.0.0 ≡ k
   pub said : left_text lines ≡ receipts_text worker x.0.0 x.0.1 ++ left_text x.1
@@ -125,7 +125,7 @@ receipts-said sc worker (suc k) lines x le e =
 
 -- ---- the first line of a step
 
--- the fields of a head, or of the last line after this many steps
+-- The fields of a head, or of the last line after this many steps.
 abbrev pub head_fields : Scenario → ℕ → Head → List (List ℕ)
 head_fields sc steps (Fit t k) = codes "fit" ∷ decimal t.round ∷ decimal t.station ∷ decimal k ∷ []
 head_fields sc steps (Same t) = codes "same" ∷ decimal t.round ∷ decimal t.station ∷ []
@@ -136,7 +136,7 @@ head_fields sc steps (Outside t k) = codes "outside" ∷ decimal t.round ∷ dec
 head_fields sc steps (Undecided t) = codes "undecided" ∷ decimal t.round ∷ decimal t.station ∷ decimal (length sc.workers) ∷ []
 head_fields sc steps End = codes "end" ∷ decimal steps ∷ []
 
--- the word before these fields is the head's
+-- Whether the word and these fields are the head's.
 abbrev IsHeadSaid : Scenario → ℕ → List ℕ → FieldsLeft → Head → Type 0
 IsHeadSaid sc steps word line head = word ∷ line.fields ≡ head_fields sc steps head
 
@@ -150,7 +150,7 @@ test-said sc line x e =
     ∙ ap (λ (f : List (List ℕ)). decimal r.0.0 ∷ f) (station-said sc r.0.1 s.0 s.1)
     ∙ ap (λ (y : StepTest × FieldsLeft). decimal y.0.round ∷ decimal y.0.station ∷ y.1.fields) same
 
--- a test, and a last number
+-- A test, and a count as the last field.
 counted-said : (sc : Scenario) (word : List ℕ) (line : FieldsLeft) (t : StepTest × FieldsLeft) (k : ℕ × FieldsLeft) (u : Unit {0}) → step_test_at sc line ≡ Ok t → count_at t.1 ≡ Ok k → line_end k.1 ≡ Ok u
     → word ∷ line.fields ≡ word ∷ decimal t.0.round ∷ decimal t.0.station ∷ decimal k.0 ∷ []
 counted-said sc word line t k u et ek eu =
@@ -158,7 +158,7 @@ counted-said sc word line t k u et ek eu =
     ∙ ap (λ (f : List (List ℕ)). word ∷ decimal t.0.round ∷ decimal t.0.station ∷ f) (number-said most_counted t.1 k (omega arith) ek)
     ∙ ap (λ (f : List (List ℕ)). word ∷ decimal t.0.round ∷ decimal t.0.station ∷ decimal k.0 ∷ f) (end-said k.1 u eu)
 
--- a test and no more
+-- A test and no more fields.
 bare-said : (sc : Scenario) (word : List ℕ) (line : FieldsLeft) (t : StepTest × FieldsLeft) (u : Unit {0}) → step_test_at sc line ≡ Ok t → line_end t.1 ≡ Ok u
     → word ∷ line.fields ≡ word ∷ decimal t.0.round ∷ decimal t.0.station ∷ []
 bare-said sc word line t u et eu =
@@ -248,7 +248,7 @@ end-head-said sc steps line head e =
     (ap (λ (f : List (List ℕ)). codes "end" ∷ f) (word-said (decimal steps) line r.0 r.1)
     ∙ ap (λ (f : List (List ℕ)). codes "end" ∷ decimal steps ∷ f) (end-said r.0 u.0 u.1))
 
--- one of two ways, by a word
+-- A choice between two cases by a word.
 word-choice : (P : List ℕ → Head → Type 0) (word own : List ℕ) (head : Head) (this rest : Result Head TextErr) → (this ≡ Ok head → P own head) → (rest ≡ Ok head → P word head) → (if bytes_eq word own then this else rest) ≡ Ok head → P word head
 word-choice P word own head this rest f g e = go (bytes_eq word own) refl e
   where

@@ -1,4 +1,4 @@
--- The set that a test asks about, by the stations on air.
+-- The set that a test asks about, found from the stations on air.
 use Rattle.std.proofs.Common.{◌≡◌, ◌∙◌, ℕ, true, ◌||◌, ◌==◌, inl, inr, List, refl, sym, ap, subst}
 use Rattle.std.proofs.lemmas.Bool.{or_cases, or_left, or_right, eq-eqb, eqb-true}
 use Rattle.pack_defs.specs.Book.{BookView}
@@ -18,7 +18,7 @@ use Rattle.auction_core.specs.State.{tested_set}
 use Rattle.auction_core.proofs.Answers.{filter-in, in-filter}
 use Rattle.auction_core.proofs.ClockLemmas.{on_air_by-is}
 
--- the stations on air and one more are those that its test asks about
+-- The stations on air and the tested station are the stations that the test asks about.
 with-station : (sc : Scenario) (st : ClockState) (s : ℕ) → StationsAscend sc → is_in (facilities sc) s ≡ true → with_station (on_air_set sc st) s ≡ asked_set sc st s
 with-station sc st s ascend there =
     let rises = ascending-from (facilities sc) ascend in
@@ -35,7 +35,7 @@ with-station sc st s ascend there =
       | inr same ↦ subst (λ y. is_in (with_station on s) y ≡ true) (sym (eqb-true z s same)) (is_in-from (with_station on s) s (with_station-has on s))
     ])
 
--- a set that was found by the standings is the one that the test asks about
+-- The set found from the standings is the test's set.
 pub found-set : (sc : Scenario) (book : BookView) (standings : List Standing) (s : ℕ) (set : List ℕ) → StationsAscend sc → is_in (facilities sc) s ≡ true → set ≡ component book (with_station (on_air_by (facilities sc) standings) s) s
     → (st : ClockState) → AreStandings sc st standings → set ≡ tested_set sc book st s
 found-set sc book standings s set ascend there found st are =

@@ -1,4 +1,4 @@
--- A transcript that is written is read again as itself.
+-- A transcript that can be written is read back as itself.
 use Rattle.std.proofs.Common.{◌≡◌, ◌<◌, ◌≤◌, ◌+◌, ◌^◌, ◌∙◌, ◌∷◌, ◌++◌, [], ℕ, zero, suc, List, true, Some, None, Ok, refl, sym, ap, subst, arith, length, map, decimal, append_assoc, append-nil}
 use Rattle.std.specs.Prelude.{codes}
 use Rattle.std.specs.List.{flat_map, AllByRecursion}
@@ -34,7 +34,7 @@ use Rattle.transcript_text.proofs.StepReads.{IsRead, from-parts, two, one, numbe
 
 -- ---- a step
 
--- what was read, where no more text stands behind the first line
+-- The case of a step that has only a first line.
 bare-parts : (sc : Scenario) (book : BookView) (steps n : ℕ) (field : List ℕ) (fields : List (List ℕ)) (rest : List ℕ) (x : TranscriptStep)
     → IsRead sc book steps n (line_of (field ∷ fields) ++ []) rest x → IsRead sc book steps n (line_of (field ∷ fields)) rest x
 bare-parts sc book steps n field fields rest x h = subst (λ (text : List ℕ). IsRead sc book steps n text rest x) (append-nil (line_of (field ∷ fields))) h
@@ -87,7 +87,7 @@ none-step : (sc : Scenario) (book : BookView) (n : ℕ) (t : StepTest) (rest : L
 unfolding step_at
 none-step sc book n t rest = (n, refl)
 
--- the words that begin a step
+-- The words that begin a step are fields.
 fit-word : IsField (codes "fit")
 fit-word = literal (codes "fit") refl
 
@@ -179,7 +179,7 @@ shown-read sc book steps n t (LeftOpen xs) firsts rest small le s h =
     (undecided-head sc steps n t le s (omega (arith, small)))
     (undecided-read sc book (n + 1) t xs firsts rest small h.0 h))
 
--- the step as it is, of its test
+-- The test of a step.
 abbrev test_in : TranscriptStep → StepTest
 test_in x = record { round = x.step.round; station = x.step.station }
 
@@ -192,7 +192,7 @@ last-read : (sc : Scenario) (book : BookView) (k n : ℕ) → k < 2 ^ 64 → nex
 unfolding next_step step_at
 last-read sc book k n h = rw (line-again n (codes "end") (decimal k ∷ []) [] (end-fields k h), end-head sc k n) refl
 
--- the text of some steps and of the last line, after so many steps
+-- The text of these steps and of the last line, after `k` steps.
 abbrev steps-text : BookView → ℕ → List TranscriptStep → List ℕ
 steps-text book k [] = line_of (codes "end" ∷ decimal k ∷ []) ++ []
 steps-text book k (x ∷ xs) = step_text book x ++ steps-text book (k + 1) xs
@@ -212,7 +212,7 @@ steps-read sc book (suc most) k n (x ∷ xs) workers small h le =
     let more = steps-read sc book most (k + 1) this.number xs workers (omega (arith, small)) h.1 (omega (arith, this.less, le)) in
     (more.0, rw (this.read, more.1) refl)
 
--- the text behind the start
+-- The text after the start, regrouped.
 regrouped : (book : BookView) (k : ℕ) (xs : List TranscriptStep) → flat_map (step_text book) xs ++ line_of (codes "end" ∷ decimal (k + length xs) ∷ []) ≡ steps-text book k xs
 regrouped book k [] =
     let e : k + 0 ≡ k = omega arith in
@@ -245,9 +245,9 @@ start-read sc n (Refuted w how) rest h = absurd h
 start-read sc n (ByOutside proof) rest h = absurd h
 start-read sc n (LeftOpen xs) rest h = absurd h
 
--- ---- the whole
+-- ---- the complete text
 
--- a text of at least one byte, of which none stands behind the end of the last line
+-- Whether a text has at least one byte and ends with a line end.
 abbrev EndsWhole : List ℕ → Type 0
 EndsWhole text = (is_whole text ≡ true) × (0 < length text)
 
@@ -271,7 +271,7 @@ nothing-left : (t : Transcript) (m : ℕ) → (text_end true (lines_at m []) >>=
 unfolding ended_lines
 nothing-left t m = refl
 
--- a transcript that is written is read again as itself
+-- A transcript that can be written is read back as itself.
 pub transcript-again : (sc : Scenario) (book : BookView) (t : Transcript) → IsSpelled sc book t → transcript_of sc book (spelling book t) ≡ Ok t
 unfolding transcript_of spelling end_text
 transcript-again sc book t h =

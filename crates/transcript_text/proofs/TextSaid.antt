@@ -1,4 +1,4 @@
--- A text that was read is the one that is written of what it says.
+-- A text that was read equals the text that is written of the result.
 use Rattle.std.proofs.Common.{◌≡◌, ◌≤◌, ◌+◌, ◌∙◌, ◌∷◌, ◌++◌, ◌&&◌, [], ℕ, zero, suc, List, Bool, true, false, if◌then◌else◌, Option, Some, None, Result, Ok, Err, refl, sym, ap, subst, arith, length, map, decimal, append_assoc, append-nil}
 use Rattle.std.specs.Prelude.{codes}
 use Rattle.std.specs.List.{flat_map}
@@ -34,16 +34,16 @@ use Rattle.transcript_text.proofs.Rising.{after-ok}
 
 -- ---- a step
 
--- the text of a step, or of the last line after this many
+-- The text of a step, or of the last line after this many steps.
 abbrev pub next_text : BookView → ℕ → Option TranscriptStep → List ℕ
 next_text book steps None = end_text steps
 next_text book steps (Some x) = step_text book x
 
--- a head and the lines behind it are the text of what was read
+-- Whether the text of a head and of the lines after it is the text of what was read.
 abbrev IsNextSaid : Scenario → BookView → ℕ → Head → LinesLeft → Option TranscriptStep × LinesLeft → Type 0
 IsNextSaid sc book steps head lines x = line_of (head_fields sc steps head) ++ left_text lines ≡ next_text book steps x.0 ++ left_text x.1
 
--- a step that was read, as one that may be missing
+-- The same for a step that was read, as an option.
 some-said : (sc : Scenario) (book : BookView) (steps : ℕ) (head : Head) (lines : LinesLeft) (read : Result (TranscriptStep × LinesLeft) TextErr) (x : Option TranscriptStep × LinesLeft)
     → ((y : TranscriptStep × LinesLeft) → read ≡ Ok y → IsNextSaid sc book steps head lines (Some y.0, y.1)) → as_some read ≡ Ok x → IsNextSaid sc book steps head lines x
 some-said sc book steps head lines read x f e =
@@ -152,7 +152,7 @@ steps-said sc book (suc most) steps lines x le e =
 abbrev pub IsStartSaid : LinesLeft → Shown × LinesLeft → Type 0
 IsStartSaid lines x = left_text lines ≡ start_text x.0 ++ left_text x.1
 
--- behind the word and the kind of a start
+-- Whether what follows the word and the kind of a start is the text of what was read.
 abbrev IsStartBody : List ℕ → FieldsLeft → LinesLeft → Shown × LinesLeft → Type 0
 IsStartBody kind line lines x = line_of (codes "start" ∷ kind ∷ line.fields) ++ left_text lines ≡ start_text x.0 ++ left_text x.1
 
@@ -196,7 +196,7 @@ start-said sc lines x e =
     ∙ ap (λ (f : List (List ℕ)). line_of f ++ left_text next.0.1) fields
     ∙ start-by-said sc lines.number kind.0.0 kind.0.1 next.0.1 x kind.2
 
--- ---- the whole
+-- ---- the complete text
 
 order-said : (line : List ℕ) (order : Order) → order_of line ≡ Some order → line ++ 10 ∷ [] ≡ version_text order
 unfolding order_of version_text with_spaces
@@ -227,7 +227,7 @@ empty-left : (lines : List (List ℕ)) → is_empty lines ≡ true → ended lin
 empty-left [] e = refl
 empty-left (line ∷ lines) e = absurd cc
 
--- the one text that says this transcript
+-- Exactly one text spells this transcript.
 pub transcript-said : (sc : Scenario) (book : BookView) (text : List ℕ) (t : Transcript) → length sc.workers ≤ greatest → transcript_of sc book text ≡ Ok t → text ≡ spelling book t
 unfolding transcript_of spelling
 transcript-said sc book text t le e =

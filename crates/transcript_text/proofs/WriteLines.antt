@@ -1,4 +1,4 @@
--- Lines that are written field by field.
+-- Lines that are written field by field, for the contracts of `parts`.
 use Rattle.std.proofs.Common.{◌≡◌, ◌<◌, ◌≤◌, ◌+◌, ◌∙◌, ◌∷◌, ◌++◌, [], ℕ, List, sym, append_assoc, append-nil, decimal, drop, get_or, length, map}
 use Rattle.std.proofs.lemmas.List.{drop_all, drop_more}
 use Rattle.cert_types.specs.declared.answer.Receipt.{Receipt}
@@ -8,11 +8,11 @@ use Rattle.lrat_text.specs.Lines.{line_of}
 use Rattle.lrat_text.specs.LogText.{spaced}
 use Rattle.lrat_text.proofs.WriteLemmas.{joined-spaced}
 
--- a word, numbers and an end, behind a text
+-- A text with a word, numbers and a line end appended.
 pub line-parts : (text word : List ℕ) (numbers : List ℕ) → ((text ++ word) ++ spaced (map decimal numbers)) ++ 10 ∷ [] ≡ text ++ line_of (word ∷ map decimal numbers)
 line-parts text word numbers = rw (joined-spaced word (map decimal numbers)) (simp append_assoc)
 
--- a receipt more is written
+-- A text with another receipt appended.
 pub receipts-more : (text : List ℕ) (clauses i : ℕ) (x : Receipt) (xs : List Receipt) → i < length xs → x ≡ get_or xs i x
     → (text ++ receipt_text i x (first_of clauses x)) ++ receipts_text (i + 1) (drop (i + 1) xs) (map (first_of clauses) (drop (i + 1) xs)) ≡ text ++ receipts_text i (drop i xs) (map (first_of clauses) (drop i xs))
 unfolding receipts_text

@@ -1,4 +1,4 @@
--- The steps of a backed record, written in turn.
+-- Writing the steps of a backed record in order.
 use Rattle.std.proofs.Common.{◌≡◌, ◌∙◌, ◌≤◌, ◌<◌, ◌+◌, ℕ, zero, suc, List, [], ◌∷◌, ◌++◌, Option, Some, None, MatchOption, inl, inr, refl, sym, ap, subst, arith, append_assoc, append-nil, drop, take, get_or, length}
 use Rattle.std.specs.Prelude.{slice_get}
 use Rattle.std.specs.List.{All, flat_map}
@@ -33,7 +33,7 @@ use Rattle.transcript_text.specs.Fields.{most_counted}
 use Rattle.transcript_text.specs.Spelling.{end_text, spelling, start_text, step_text, transcript_for, transcript_step, transcript_steps, transcript_text, version_text}
 use Rattle.transcript_text.specs.Writable.{IsShownWritable, IsWritable, lines_in}
 
--- ---- what was shown may be written
+-- ---- every step of a backed record can be written
 
 pub head-of : {X : Type 0} (P : X → Type 0) (x : X) (xs : List X) → All P (x ∷ xs) → P x
 head-of P x xs h = h 0 x (omega arith)
@@ -45,7 +45,7 @@ kind-most Walk = omega arith
 pub budget-most : (w : Worker) → IsWorkerWithinLimits w → w.budget ≤ most_counted
 budget-most w h = let most = kind-most w.kind in omega (arith, most, h.budget)
 
--- what a worker of the scenario shows, some worker within the limits shows
+-- A worker of the scenario is within the limits.
 pub of-worker : (ws : List Worker) (w : ℕ) (P : Worker → Type 0) → All IsWorkerWithinLimits ws → MatchOption (slice_get ws w) ⊥ P → (worker : Worker) × (worker.budget ≤ most_counted) × P worker
 of-worker [] w P l h = absurd h
 of-worker (x ∷ xs) zero P l h = (x, budget-most x (head-of IsWorkerWithinLimits x xs l), h)
@@ -100,7 +100,7 @@ step-writable sc book state x l h = go (settled_unasked sc book state (test_of x
     go None e k = settled-writable sc book (test_task sc book state (test_of x)) x.shown l k
     go (Some unasked) e k = unasked-writable sc book state x unasked e k
 
--- each step is shown as it has to be in the state that the steps before it leave
+-- Each step is settled correctly in the state that the steps before it leave.
 pub shown-at : (sc : Scenario) (book : BookView) (state : CoreState) (xs : List Step) (k : ℕ) (d : Step) → AreShown sc book state xs → k < length xs → IsStepShown sc book (after_steps sc state (take k xs)) (get_or xs k d)
 shown-at sc book state [] k d h below = absurd (omega arith)
 shown-at sc book state (x ∷ xs) zero d h below = h.0
@@ -114,11 +114,11 @@ writable-at sc book state xs ys k x l h same below is =
 
 -- ---- the text so far
 
--- the text of these steps, from this state of the clock on
+-- The text of these steps, from this state of the clock on.
 abbrev pub steps_text : Scenario → BookView → ClockState → List Step → List ℕ
 steps_text sc book clock xs = flat_map (step_text book) (transcript_steps sc book clock xs)
 
--- one step more is written
+-- The text with another step appended.
 pub steps-more : (sc : Scenario) (book : BookView) (text : List ℕ) (clock next : ClockState) (k : ℕ) (x : Step) (xs : List Step) (total : List ℕ) → k < length xs → x ≡ get_or xs k x → next ≡ after_answer sc clock (test_of x) (shows_room x.shown)
     → text ++ steps_text sc book clock (drop k xs) ≡ total → (text ++ step_text book (transcript_step sc book clock x)) ++ steps_text sc book next (drop (k + 1) xs) ≡ total
 steps-more sc book text clock next k x xs total below is moved so =
@@ -135,7 +135,7 @@ pub steps-count : (sc : Scenario) (book : BookView) (clock : ClockState) (xs : L
 steps-count sc book clock [] = refl
 steps-count sc book clock (x ∷ xs) = ap suc (steps-count sc book (after_answer sc clock (test_of x) (shows_room x.shown)) xs)
 
--- the parts of a transcript's text, one by one
+-- A transcript's text, taken into its parts.
 pub whole-text : (sc : Scenario) (book : BookView) (rec : Record) (k : ℕ) → k ≡ length rec.steps
     → ((version_text rec.order ++ start_text rec.start) ++ steps_text sc book (opening_state sc) rec.steps) ++ end_text k ≡ transcript_text sc book rec
 unfolding spelling transcript_for

@@ -1,4 +1,5 @@
--- What the beginning of a transcript's text says: what is all there of it, or the first fault of its whole lines.
+-- The beginning of a transcript that a text spells: the parts that are complete, or the first error in its complete
+-- lines.
 use Rattle.std.specs.Prelude.{◌≡◌, ◌++◌, ℕ, zero, suc, Bool, true, false, ◌+◌, List, [], ◌∷◌, length, take, Option, Some, None, Result, Ok, Err}
 use Rattle.pack_defs.specs.Book.{BookView}
 use Rattle.pack_defs.specs.declared.scenario.Scenario.{Scenario}
@@ -13,84 +14,84 @@ use Rattle.transcript_text.specs.Fields.{LinesLeft}
 use Rattle.transcript_text.specs.Reading.{next_step, start_at, text_end, version_at}
 use Rattle.pack_defs.specs.Steps.{◌>>=◌}
 
--- ---- what is kept where lines are wanted
+-- ---- missing lines
 
--- where a part wants more lines it is dropped, and this is kept; any other fault stands
+-- What is kept if only lines are missing; any other error stays an error.
 abbrev pub kept_at : {A : Type 0} → A → TextErr → Result A TextErr
 kept_at kept Version = Err Version
 kept_at kept (BadLine n) = Err (BadLine n)
 kept_at kept Truncated = Ok kept
 kept_at kept NoMemory = Err NoMemory
 
--- what the next part makes of one that is all there; this is kept where it isn't
+-- The next part, read after one that is complete; if that one is incomplete, what is kept.
 abbrev pub if_there : {A B : Type 0} → B → Result A TextErr → (A → Result B TextErr) → Result B TextErr
 if_there kept (Ok x) next = next x
 if_there kept (Err why) next = kept_at kept why
 
 -- ---- steps
 
--- the steps that are all there, and whether the `end` line is
+-- The steps that are complete, and whether the `end` line is.
 pub record StepsThere : Type 0 where
   pub steps : List TranscriptStep
   pub ended : Bool
 
--- these steps, where no more are there
+-- No steps, and no `end` line.
 abbrev pub no_more : StepsThere
 no_more = record { steps = []; ended = false }
 
--- A step, and then what is there behind it, if it isn't the last line. No whole line stands behind that one.
+-- A step, and then the steps after it; or the `end` line, which no complete line may follow.
 abbrev pub there_or : Option TranscriptStep → LinesLeft → (LinesLeft → Result StepsThere TextErr) → Result StepsThere TextErr
 there_or None lines rest = text_end true lines >>= λ u. Ok (record { steps = []; ended = true })
 there_or (Some x) lines rest = rest lines >>= λ more. Ok (record { steps = x ∷ more.steps; ended = more.ended })
 
--- The steps, after this many, up to the last line, or to the first one that isn't all there. Each has a line at least, so
--- that no more than so many are to come.
+-- The steps after `steps` steps, up to the `end` line or to the first step that is incomplete. Each step has a line
+-- at least, so the number of lines bounds the number of steps.
 unfoldable pub steps_there : Scenario → BookView → ℕ → ℕ → LinesLeft → Result StepsThere TextErr
 steps_there sc book zero steps lines = Ok no_more
 steps_there sc book (suc most) steps lines =
     if_there no_more (next_step sc book steps lines) (λ next. there_or next.0 next.1 (λ rest. steps_there sc book most (steps + 1) rest))
 
--- ---- the whole
+-- ---- the complete text
 
--- of a text without a whole line
+-- What a text without a complete line begins.
 abbrev pub nothing_there : Prefix
 nothing_there = record { order = None; start = None; steps = []; ended = false }
 
--- of a text whose start isn't all there
+-- What a text begins whose start is incomplete.
 abbrev pub order_there : Order → Prefix
 order_there order = record { order = Some order; start = None; steps = []; ended = false }
 
--- the transcript as far as it is there, and whether its `end` line is
+-- A transcript as a prefix, with whether its `end` line was read.
 abbrev pub transcript_there : Transcript → Bool → Prefix
 transcript_there t ended = record { order = Some t.order; start = Some t.start; steps = t.steps; ended = ended }
 
--- the transcript that begins so, as far as these lines have whole steps of it
+-- The transcript that begins with `begun`, as far as these lines have complete steps of it.
 unfoldable pub goes_on_there : Scenario → BookView → Transcript → LinesLeft → Result Prefix TextErr
 goes_on_there sc book begun lines = do
   more ← steps_there sc book (length lines.left) (length begun.steps) lines
   Ok (transcript_there (record { order = begun.order; start = begun.start; steps = begun.steps ++ more.steps }) more.ended)
 
--- what is there behind the first line, which names this order
+-- What follows the first line, which names this order, as far as it is complete.
 unfoldable pub start_there : Scenario → BookView → Order → LinesLeft → Result Prefix TextErr
 start_there sc book order lines =
     if_there (order_there order) (start_at sc lines)
     (λ start. goes_on_there sc book (record { order = order; start = start.0; steps = [] }) start.1)
 
--- What is there of the transcript that begins with this text: its first line, the start and each step whose lines are all
--- there, and whether the `end` line is. Or the first fault: the first line is whole and names no version; the first whole
--- line that may not stand where it stands, or one behind the `end` line.
+-- The complete part of the transcript that begins with this text: its first line, its start, each step whose lines
+-- are all there, and whether the `end` line is. Or the first error: a complete first line that names no version, or
+-- the first complete line that is not allowed at its place or follows the `end` line.
 unfoldable pub prefix_of : Scenario → BookView → List ℕ → Result Prefix TextErr
 prefix_of sc book text =
     if_there nothing_there (version_at (ended_lines text)) (λ version. start_there sc book version.0 version.1)
 
--- ---- a beginning and the whole
+-- ---- a beginning and the complete transcript
 
--- nothing, or this
+-- Whether the option is empty or has this value.
 abbrev pub IsNoneOr : {A : Type 0} → Option A → A → Type 0
 IsNoneOr None x = Unit {0}
 IsNoneOr (Some y) x = y ≡ x
 
--- what was kept is the beginning of this transcript, and all of it where the `end` line is there
+-- Whether what was kept is a beginning of this transcript, and all of it if the `end` line was read.
 pub record IsPrefixOf (kept : Prefix) (t : Transcript) : Type 0 where
   pub order : IsNoneOr kept.order t.order
   pub start : IsNoneOr kept.start t.start

@@ -1,4 +1,4 @@
--- What a text says as a transcript: the transcript, or why it is none, by the first line at fault.
+-- The transcript that a text spells, or why it spells none, by the first invalid line.
 use Rattle.std.specs.Prelude.{ℕ, zero, suc, Bool, ◌&&◌, ◌+◌, ◌≤◌, ◌==◌, if◌then◌else◌, List, [], ◌∷◌, length, Option, Some, None, Result, Ok, Err, codes, decimal}
 use Rattle.std.specs.Str.{bytes_eq}
 use Rattle.pack_defs.specs.Lists.{is_empty}
@@ -29,15 +29,16 @@ use Rattle.transcript_text.specs.LogLines.{log_at, entries_at, moves_at, station
 
 -- ---- logs whose first line may have any number
 
--- a log, and the number of its first line; 0 where it has none
+-- A log, and the number of its first line, which is 0 if the log is empty.
 pub record FoundLog : Type 0 where
   pub log : Log
   pub first : ℕ
 
+-- The log of these lines, with this first number.
 abbrev pub found_log : ℕ → List Line → FoundLog
 found_log first lines = record { log = record { lines = lines }; first = first }
 
--- one line of a log, or more, of which the first has any number
+-- A log of one line or more whose first line may have any number, and the lines after it.
 unfoldable pub some_log : ℕ → LinesLeft → Result (FoundLog × LinesLeft) TextErr
 some_log k lines = do
   next ← next_line lines
@@ -45,28 +46,30 @@ some_log k lines = do
   log ← log_at first.0 k lines
   Ok (found_log first.0 log.0, log.1)
 
--- a log of this many lines
+-- A log of this many lines whose first line may have any number, and the lines after it.
 unfoldable pub numbered_log : ℕ → LinesLeft → Result (FoundLog × LinesLeft) TextErr
 numbered_log k lines = if k == 0 then Ok (found_log 0 [], lines) else some_log k lines
 
 -- ---- receipts
 
--- a receipt, and the number of its log's first line
+-- A receipt, and the number of its log's first line, which is 0 if it has none.
 pub record FoundReceipt : Type 0 where
   pub receipt : Receipt
   pub first : ℕ
 
+-- A receipt of this many log lines, and the lines after it.
 unfoldable pub lines_receipt : ℕ → LinesLeft → Result (FoundReceipt × LinesLeft) TextErr
 lines_receipt k lines = do
   found ← numbered_log k lines
   Ok (record { receipt = Lines found.0.log; first = found.0.first }, found.1)
 
+-- A receipt of this many moves, and the lines after it.
 unfoldable pub moves_receipt : Scenario → ℕ → LinesLeft → Result (FoundReceipt × LinesLeft) TextErr
 moves_receipt sc k lines = do
   moves ← moves_at sc k lines
   Ok (record { receipt = Moves moves.0; first = 0 }, moves.1)
 
--- the worker and the count of a receipt's first line
+-- The count in a receipt's first line, which must name this worker.
 unfoldable pub receipt_count : ℕ → FieldsLeft → Result ℕ TextErr
 receipt_count worker line = do
   rest ← exactly_at worker line
@@ -74,13 +77,13 @@ receipt_count worker line = do
   u ← line_end k.1
   Ok k.0
 
--- the receipt with this word, on the n-th line
+-- The receipt whose first line, line `n`, begins with this word.
 abbrev pub receipt_by : Scenario → ℕ → List ℕ → ℕ → LinesLeft → Result (FoundReceipt × LinesLeft) TextErr
 receipt_by sc n word k lines =
     if bytes_eq word (codes "lines") then lines_receipt k lines
     else (if bytes_eq word (codes "moves") then moves_receipt sc k lines else Err (BadLine n))
 
--- the receipt of this worker
+-- The receipt of this worker.
 unfoldable pub receipt_at : Scenario → ℕ → LinesLeft → Result (FoundReceipt × LinesLeft) TextErr
 receipt_at sc worker lines = do
   next ← next_line lines
@@ -88,7 +91,7 @@ receipt_at sc worker lines = do
   k ← receipt_count worker word.1
   receipt_by sc lines.number word.0 k next.1
 
--- the receipts of this many workers, from this one on
+-- The receipts of this many workers, from this one on, with the numbers of their logs' first lines.
 unfoldable pub receipts_at : Scenario → ℕ → ℕ → LinesLeft → Result ((List Receipt × List ℕ) × LinesLeft) TextErr
 receipts_at sc worker zero lines = Ok (([], []), lines)
 receipts_at sc worker (suc k) lines = do
@@ -98,13 +101,14 @@ receipts_at sc worker (suc k) lines = do
 
 -- ---- the first line of a step
 
--- the round and the station
+-- The round and the station of a step, and the fields after them.
 unfoldable pub step_test_at : Scenario → FieldsLeft → Result (StepTest × FieldsLeft) TextErr
 step_test_at sc line = do
   r ← number_at greatest_u32 line
   s ← station_at sc r.1
   Ok (record { round = r.0; station = s.0 }, s.1)
 
+-- The rest of a `fit` line: the test, and the count of entries.
 unfoldable pub fit_head : Scenario → FieldsLeft → Result Head TextErr
 fit_head sc line = do
   t ← step_test_at sc line
@@ -112,18 +116,21 @@ fit_head sc line = do
   u ← line_end k.1
   Ok (Fit t.0 k.0)
 
+-- The rest of a `same` line: the test.
 unfoldable pub same_head : Scenario → FieldsLeft → Result Head TextErr
 same_head sc line = do
   t ← step_test_at sc line
   u ← line_end t.1
   Ok (Same t.0)
 
+-- The rest of a `none` line: the test.
 unfoldable pub none_head : Scenario → FieldsLeft → Result Head TextErr
 none_head sc line = do
   t ← step_test_at sc line
   u ← line_end t.1
   Ok (NoChannel t.0)
 
+-- The rest of a `log` line: the test, the worker, and the count of log lines.
 unfoldable pub log_head : Scenario → FieldsLeft → Result Head TextErr
 log_head sc line = do
   t ← step_test_at sc line
@@ -132,6 +139,7 @@ log_head sc line = do
   u ← line_end k.1
   Ok (LogHead t.0 w.0 k.0)
 
+-- The rest of a `dead` line: the test, the worker, and the pair.
 unfoldable pub dead_head : Scenario → FieldsLeft → Result Head TextErr
 dead_head sc line = do
   t ← step_test_at sc line
@@ -143,6 +151,7 @@ dead_head sc line = do
   u ← line_end b.1
   Ok (Dead t.0 w.0 (record { f = f.0; a = a.0; g = g.0; b = b.0 }))
 
+-- The rest of an `outside` line: the test, and the count of log lines.
 unfoldable pub outside_head : Scenario → FieldsLeft → Result Head TextErr
 outside_head sc line = do
   t ← step_test_at sc line
@@ -150,7 +159,7 @@ outside_head sc line = do
   u ← line_end k.1
   Ok (Outside t.0 k.0)
 
--- it counts a receipt of each worker
+-- The rest of an `undecided` line: the test, and the count of receipts, one for each worker.
 unfoldable pub undecided_head : Scenario → FieldsLeft → Result Head TextErr
 undecided_head sc line = do
   t ← step_test_at sc line
@@ -158,14 +167,14 @@ undecided_head sc line = do
   u ← line_end rest
   Ok (Undecided t.0)
 
--- it counts the steps
+-- The rest of the `end` line: the count of the steps.
 unfoldable pub end_head : ℕ → FieldsLeft → Result Head TextErr
 end_head steps line = do
   rest ← word_at (decimal steps) line
   u ← line_end rest
   Ok End
 
--- the head with this word
+-- The rest of the first line that begins with this word.
 abbrev pub head_by : Scenario → ℕ → List ℕ → FieldsLeft → Result Head TextErr
 head_by sc steps word line =
     if bytes_eq word (codes "fit") then fit_head sc line
@@ -178,13 +187,13 @@ head_by sc steps word line =
     else (if bytes_eq word (codes "end") then end_head steps line
     else Err (BadLine line.number))))))))
 
--- what a step's first line says, or the last line, after this many steps
+-- The content of a step's first line, or of the `end` line after this many steps.
 unfoldable pub head_at : Scenario → ℕ → FieldsLeft → Result Head TextErr
 head_at sc steps line = do
   word ← next_field line
   head_by sc steps word.0 word.1
 
--- a step's log has no more lines than may be counted
+-- Whether a step's log has no more lines than may be counted.
 abbrev pub IsHeadCounted : Head → Type 0
 IsHeadCounted (Fit test k) = Unit {0}
 IsHeadCounted (Same test) = Unit {0}
@@ -197,16 +206,18 @@ IsHeadCounted End = Unit {0}
 
 -- ---- a step
 
+-- The step that answers this test.
 abbrev pub step_of : StepTest → Shown → List ℕ → TranscriptStep
 step_of test shown firsts =
     record { step = record { round = test.round; station = test.station; shown = shown }; firsts = firsts }
 
+-- A `fit` step of this many entries, and the lines after it.
 unfoldable pub fit_step : Scenario → StepTest → ℕ → LinesLeft → Result (TranscriptStep × LinesLeft) TextErr
 fit_step sc test k lines = do
   entries ← entries_at sc None k lines
   Ok (step_of test (Fits entries.0) [], entries.1)
 
--- the subset on the line behind the first, and the log over its clauses
+-- A `log` step: the stations on the next line, and the log over their clauses.
 unfoldable pub log_step : Scenario → BookView → StepTest → ℕ → ℕ → LinesLeft → Result (TranscriptStep × LinesLeft) TextErr
 log_step sc book test worker k lines = do
   next ← next_line lines
@@ -215,22 +226,23 @@ log_step sc book test worker k lines = do
   log ← log_at (clauses_in book subset + 1) k next.1
   Ok (step_of test (Refuted worker (LogProof subset (record { lines = log.0 }))) [], log.1)
 
--- a log whose first line may have any number
+-- An `outside` step: a log whose first line may have any number.
 unfoldable pub outside_step : StepTest → ℕ → LinesLeft → Result (TranscriptStep × LinesLeft) TextErr
 outside_step test k lines = do
   found ← numbered_log k lines
   Ok (step_of test (ByOutside (record { log = found.0.log })) (found.0.first ∷ []), found.1)
 
+-- An `undecided` step: a receipt of each worker.
 unfoldable pub undecided_step : Scenario → StepTest → LinesLeft → Result (TranscriptStep × LinesLeft) TextErr
 undecided_step sc test lines = do
   found ← receipts_at sc 0 (length sc.workers) lines
   Ok (step_of test (LeftOpen found.0.0) found.0.1, found.1)
 
--- a step that was read, and the lines behind it
+-- A step that was read, as an option, and the lines after it.
 abbrev pub as_some : Result (TranscriptStep × LinesLeft) TextErr → Result (Option TranscriptStep × LinesLeft) TextErr
 as_some read = read >>= λ x. Ok (Some x.0, x.1)
 
--- the step of this first line, if it isn't the last line
+-- The step that begins with this first line, or none if it is the `end` line.
 unfoldable pub step_at : Scenario → BookView → Head → LinesLeft → Result (Option TranscriptStep × LinesLeft) TextErr
 step_at sc book (Fit test k) lines = as_some (fit_step sc test k lines)
 step_at sc book (Same test) lines = Ok (Some (step_of test LikeBefore []), lines)
@@ -241,43 +253,45 @@ step_at sc book (Outside test k) lines = as_some (outside_step test k lines)
 step_at sc book (Undecided test) lines = as_some (undecided_step sc test lines)
 step_at sc book End lines = Ok (None, lines)
 
--- the next step, after this many; none at the last line
+-- The next step after this many, or none at the `end` line.
 unfoldable pub next_step : Scenario → BookView → ℕ → LinesLeft → Result (Option TranscriptStep × LinesLeft) TextErr
 next_step sc book steps lines = do
   next ← next_line lines
   head ← head_at sc steps next.0
   step_at sc book head next.1
 
--- a step, and then what the rest says, if it isn't the last line
+-- A step, and then the steps after it; or no step at the `end` line.
 abbrev pub step_or : Option TranscriptStep → LinesLeft → (LinesLeft → Result (List TranscriptStep × LinesLeft) TextErr) → Result (List TranscriptStep × LinesLeft) TextErr
 step_or None lines rest = Ok ([], lines)
 step_or (Some x) lines rest = rest lines >>= λ more. Ok (x ∷ more.0, more.1)
 
--- The steps, after this many, up to the last line. Each has a line at least, so that no more than so many are to come.
+-- The steps after `steps` steps, up to the `end` line. Each step has a line at least, so the number of lines bounds
+-- the number of steps.
 unfoldable pub steps_at : Scenario → BookView → ℕ → ℕ → LinesLeft → Result (List TranscriptStep × LinesLeft) TextErr
 steps_at sc book zero steps lines = Err Truncated
 steps_at sc book (suc most) steps lines = do
   next ← next_step sc book steps lines
   step_or next.0 next.1 (λ rest. steps_at sc book most (steps + 1) rest)
 
--- ---- the whole
+-- ---- the complete text
 
--- the order that a first line names, if it names one
+-- The order that a first line names, if it names a version.
 unfoldable pub order_of : List ℕ → Option Order
 order_of line =
     if bytes_eq line (codes "transcript 1") then Some ByFacility
     else (if bytes_eq line (codes "transcript 2") then Some ByVolume else None)
 
--- the order, if there is one, and the lines behind the first
+-- The order, and the lines after the first line; an error without an order.
 abbrev pub version_or : Option Order → List (List ℕ) → Result (Order × LinesLeft) TextErr
 version_or None lines = Err Version
 version_or (Some order) lines = Ok (order, record { number = 2; left = lines })
 
--- the order that the first line names, and the lines behind it
+-- The order that the first line names, and the lines after it.
 abbrev pub version_at : List (List ℕ) → Result (Order × LinesLeft) TextErr
 version_at [] = Err Truncated
 version_at (line ∷ lines) = version_or (order_of line) lines
 
+-- A start that fits, by the entries on the next lines.
 unfoldable pub fit_start : Scenario → FieldsLeft → LinesLeft → Result (Shown × LinesLeft) TextErr
 fit_start sc line lines = do
   k ← count_at line
@@ -285,18 +299,19 @@ fit_start sc line lines = do
   entries ← entries_at sc None k.0 lines
   Ok (Fits entries.0, entries.1)
 
+-- An empty start.
 unfoldable pub empty_start : FieldsLeft → LinesLeft → Result (Shown × LinesLeft) TextErr
 empty_start line lines = do
   u ← line_end line
   Ok (Empty, lines)
 
--- the start with this word, on the n-th line
+-- The start of this kind, on line `n`.
 abbrev pub start_by : Scenario → ℕ → List ℕ → FieldsLeft → LinesLeft → Result (Shown × LinesLeft) TextErr
 start_by sc n word line lines =
     if bytes_eq word (codes "empty") then empty_start line lines
     else (if bytes_eq word (codes "fit") then fit_start sc line lines else Err (BadLine n))
 
--- how the start test was settled
+-- How the start test was settled, and the lines after it.
 unfoldable pub start_at : Scenario → LinesLeft → Result (Shown × LinesLeft) TextErr
 start_at sc lines = do
   next ← next_line lines
@@ -304,12 +319,13 @@ start_at sc lines = do
   kind ← next_field rest
   start_by sc lines.number kind.0 kind.1 next.1
 
--- nothing stands behind the last line
+-- The check that nothing follows the last line. `whole` is whether the text ends with a complete line.
 abbrev pub text_end : Bool → LinesLeft → Result (Unit {0}) TextErr
 text_end whole lines = if is_empty lines.left && whole then Ok tt else Err (BadLine lines.number)
 
--- The transcript that a text says, or the first fault: its first line is whole and names no version; the first whole line
--- that may not stand where it stands, or any bytes behind the `end` line; the text ends before its `end` line does.
+-- The transcript that a text spells, or the first error. The errors are: a complete first line that names no version;
+-- a complete line that is not allowed at its place, or any bytes after the `end` line; a text that ends before its
+-- `end` line.
 unfoldable pub transcript_of : Scenario → BookView → List ℕ → Result Transcript TextErr
 transcript_of sc book text = do
   version ← version_at (ended_lines text)

@@ -1,5 +1,5 @@
--- Which transcripts a text can say: their numbers, counts, stations, channels and workers are those that a line may
--- name.
+-- The transcripts that a text can spell: their numbers, counts, stations, channels and workers fit the lines that
+-- name them.
 use Rattle.std.specs.Prelude.{ℕ, ◌+◌, ◌<◌, ◌≤◌, ◌^◌, ◌≡◌, true, List, [], ◌∷◌, length, Option, Some, None}
 use Rattle.std.specs.List.{AllByRecursion}
 use Rattle.pack_defs.specs.declared.limits.TheConstants.{GREATEST_CHANNEL, LEAST_CHANNEL}
@@ -20,69 +20,72 @@ use Rattle.auction_core.specs.declared.transcript.TranscriptStep.{TranscriptStep
 use Rattle.auction_core.specs.LogNumbers.{clauses_in}
 use Rattle.transcript_text.specs.Fields.{greatest_u32, most_counted, is_above}
 
--- a station of the scenario
+-- Whether this is a station of the scenario that a line can name.
 abbrev pub IsStation : Scenario → ℕ → Type 0
 IsStation sc s = (is_in (facilities sc) s ≡ true) × (s ≤ greatest_u32)
 
+-- Whether this is a channel, 14 to 51.
 abbrev pub IsChannel : ℕ → Type 0
 IsChannel c = (LEAST_CHANNEL ≤ c) × (c ≤ GREATEST_CHANNEL)
 
--- a worker of the scenario
+-- Whether this is a worker of the scenario that a line can name.
 abbrev pub IsWorker : Scenario → ℕ → Type 0
 IsWorker sc w = (w < length sc.workers) × (w ≤ greatest_u32)
 
+-- Whether this is an entry: a station of the scenario, and a channel.
 abbrev pub IsEntry : Scenario → ℕ × ℕ → Type 0
 IsEntry sc x = IsStation sc x.0 × IsChannel x.1
 
--- entries, ascending by station, above this one
+-- Whether these are entries that ascend by station from above this one.
 abbrev pub AreEntries : Scenario → Option ℕ → List (ℕ × ℕ) → Type 0
 AreEntries sc above [] = Unit {0}
 AreEntries sc above (x ∷ xs) = (IsEntry sc x × (is_above above x.0 ≡ true)) × AreEntries sc (Some x.0) xs
 
--- stations, ascending, above this one
+-- Whether these are stations that ascend from above this one.
 abbrev pub AreStations : Scenario → Option ℕ → List ℕ → Type 0
 AreStations sc above [] = Unit {0}
 AreStations sc above (s ∷ ss) = (IsStation sc s × (is_above above s ≡ true)) × AreStations sc (Some s) ss
 
--- a hint that a line can name
+-- Whether a line can name this hint.
 abbrev pub IsHint : ℕ → Type 0
 IsHint h = (1 ≤ h) × (h ≤ greatest)
 
--- the lines of a log, numbered on from here
+-- Whether these are lines of a log that is numbered from this number on.
 abbrev pub AreLines : ℕ → List Line → Type 0
 AreLines number [] = Unit {0}
 AreLines number (line ∷ lines) =
     ((number ≤ greatest) × AllByRecursion IsLitSpelled line.lits × AllByRecursion IsHint line.hints) × AreLines (number + 1) lines
 
--- a log whose first line has this number; where it has no line, the number is 0
+-- Whether these are the lines of a log whose first line has this number; 0 if it has no line.
 abbrev pub IsLog : ℕ → List Line → Type 0
 IsLog first [] = first ≡ 0
 IsLog first (line ∷ lines) = AreLines first (line ∷ lines)
 
--- a receipt, with the number of its log's first line
+-- Whether this is a receipt whose log's first line has this number.
 abbrev pub IsReceipt : Scenario → Receipt → ℕ → Type 0
 IsReceipt sc (Lines log) first = (length log.lines ≤ most_counted) × IsLog first log.lines
 IsReceipt sc (Moves moves) first = (length moves ≤ most_counted) × AllByRecursion (IsEntry sc) moves × (first ≡ 0)
 
--- receipts, each with the number of its log's first line
+-- Whether these are receipts, each with the number of its log's first line.
 abbrev pub AreReceiptsSpelled : Scenario → List Receipt → List ℕ → Type 0
 AreReceiptsSpelled sc [] [] = Unit {0}
 AreReceiptsSpelled sc [] (n ∷ ns) = ⊥
 AreReceiptsSpelled sc (x ∷ xs) [] = ⊥
 AreReceiptsSpelled sc (x ∷ xs) (n ∷ ns) = IsReceipt sc x n × AreReceiptsSpelled sc xs ns
 
+-- Whether a text can spell this refutation.
 abbrev pub IsRefutation : Scenario → BookView → Refutation → Type 0
 IsRefutation sc book (Proof subset log) =
     (length log.lines ≤ most_counted) × AreStations sc None subset × AreLines (clauses_in book subset + 1) log.lines
 IsRefutation sc book (Dead p) = (IsStation sc p.f × IsChannel p.a) × (IsStation sc p.g × IsChannel p.b)
 
--- the one log of these lines has the one number
+-- Whether the list has one number, which is that of the log's first line.
 abbrev pub IsOneLog : List ℕ → List Line → Type 0
 IsOneLog [] lines = ⊥
 IsOneLog (first ∷ []) lines = IsLog first lines
 IsOneLog (first ∷ second ∷ more) lines = ⊥
 
--- how a step of this station is shown, with the numbers of its logs
+-- Whether a text can spell how a step of this station was settled, with the numbers of its logs.
 abbrev pub IsShownSpelled : Scenario → BookView → ℕ → Shown → List ℕ → Type 0
 IsShownSpelled sc book station Empty firsts = ⊥
 IsShownSpelled sc book station (Fits delta) firsts = (length delta ≤ most_counted) × AreEntries sc None delta × (firsts ≡ [])
@@ -92,12 +95,13 @@ IsShownSpelled sc book station (Refuted w how) firsts = IsWorker sc w × IsRefut
 IsShownSpelled sc book station (Outside proof) firsts = (length proof.log.lines ≤ most_counted) × IsOneLog firsts proof.log.lines
 IsShownSpelled sc book station (Undecided xs) firsts = (length xs ≡ length sc.workers) × AreReceiptsSpelled sc xs firsts
 
--- a step
+-- Whether a text can spell this step.
 pub record IsStepSpelled (sc : Scenario) (book : BookView) (x : TranscriptStep) : Type 0 where
   pub round : x.step.round ≤ greatest_u32
   pub station : IsStation sc x.step.station
   pub shown : IsShownSpelled sc book x.step.station x.step.shown x.firsts
 
+-- Whether a text can spell this start.
 abbrev pub IsStartSpelled : Scenario → Shown → Type 0
 IsStartSpelled sc Empty = Unit {0}
 IsStartSpelled sc (Fits delta) = (length delta ≤ most_counted) × AreEntries sc None delta
@@ -107,7 +111,7 @@ IsStartSpelled sc (Refuted w how) = ⊥
 IsStartSpelled sc (Outside proof) = ⊥
 IsStartSpelled sc (Undecided xs) = ⊥
 
--- The transcript can be written.
+-- Whether the transcript can be written.
 pub record IsSpelled (sc : Scenario) (book : BookView) (t : Transcript) : Type 0 where
   pub start : IsStartSpelled sc t.start
   pub steps : AllByRecursion (IsStepSpelled sc book) t.steps

@@ -1,5 +1,5 @@
--- What a writer asks of a step: a proof's subset ascends, and no log has more lines than a text may count. So it is
--- with each step of a backed record.
+-- Preconditions of writing a step: the stations of a proof ascend, and no log has more lines than a text may count.
+-- Every step of a backed record satisfies them.
 use Rattle.std.specs.Prelude.{IsTrue, ◌≤◌, ℕ, length}
 use Rattle.std.specs.List.{All}
 use Rattle.pack_defs.specs.Lists.{is_ascending}
@@ -11,15 +11,17 @@ use Rattle.auction_core.specs.declared.record.Shown.{Shown}
 use Rattle.auction_core.specs.declared.record.Shown.TheVariants.{Empty, Fits, Same, NoChannel, Refuted, Outside, Undecided}
 use Rattle.transcript_text.specs.Fields.{most_counted}
 
--- how many lines the log of a receipt has
+-- The number of lines that a receipt's log has.
 abbrev pub lines_in : Receipt → ℕ
 lines_in (Lines log) = length log.lines
 lines_in (Moves moves) = 0
 
+-- Whether the stations of a proof ascend and its log is not too long.
 abbrev pub IsWritable : Refutation → Type 0
 IsWritable (Proof subset log) = IsTrue (is_ascending subset) × (length log.lines ≤ most_counted)
 IsWritable (Dead p) = Unit {0}
 
+-- Whether the logs of a step are not too long, and the stations of its proof ascend.
 abbrev pub IsShownWritable : Shown → Type 0
 IsShownWritable Empty = Unit {0}
 IsShownWritable (Fits delta) = Unit {0}

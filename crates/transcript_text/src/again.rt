@@ -1,5 +1,5 @@
-//! What the law that a record's transcript is read again asks of the record, the scenario and the book: it holds of each
-//! that a program holds, which is gathered here.
+//! The preconditions of the round-trip law, which says that a record's transcript is read back as itself. Every
+//! record, scenario and book that a program holds satisfies them; the calls here prove it and do nothing else.
 
 ghost use Rattle.std.specs.Prelude.{◌≤◌, ◌<◌, ◌^◌, All, length};
 ghost use Rattle.pack_defs.specs.Book.{IsInOrder};
@@ -11,12 +11,12 @@ use pack_defs::book::Book;
 use pack_defs::scenario::Scenario;
 use pack_defs::station::Station;
 
-// A station's number is one of 32 bits. The call is made for this promise alone, and does nothing.
+// Proves that a station's number has 32 bits. Does nothing.
 fn keeps_short_number(id: u32)
     ensures { id ≤ greatest_u32 }
 {}
 
-// So is each of these. The call is made for this promise alone, and does nothing.
+// Proves that the number of each station has 32 bits. Does nothing.
 fn keeps_short_numbers(stations: &[Station])
     ensures { All (λ x. x.id ≤ greatest_u32) stations.now }
 {
@@ -25,7 +25,7 @@ fn keeps_short_numbers(stations: &[Station])
     }
 }
 
-// The entries of a fit ascend. The call is made for this promise alone, and does nothing.
+// Proves that the entries of a fit ascend. Does nothing.
 fn keeps_ascending_fit(shown: &Shown)
     ensures { IsFitAscending shown.now }
 {
@@ -39,8 +39,8 @@ fn keeps_ascending_fit(shown: &Shown)
     }
 }
 
-/// The entries of each fit of this record ascend. The call is made for this promise alone, and does nothing. It passes over the
-/// steps once, and takes no memory.
+/// Proves that the entries of each fit of this record ascend. Has no effect; passes over the steps once and allocates
+/// nothing.
 pub fn keeps_ascending_fits(rec: &Record)
     ensures { IsHeld rec.now }
 {
@@ -50,8 +50,7 @@ pub fn keeps_ascending_fits(rec: &Record)
     }
 }
 
-// The book is in order, and has no more pairs than a list can hold. The call is made for this promise alone, and does
-// nothing.
+// Proves that the book is in order and that a list can hold its pairs. Does nothing.
 fn keeps_order_and_memory(book: &Book)
     ensures order { IsInOrder book.now }
     ensures pairs { length book.now.pairs < 2 ^ 62 }
@@ -60,8 +59,8 @@ fn keeps_order_and_memory(book: &Book)
     book.keeps_to_memory();
 }
 
-/// The numbers of this scenario and this book are such as a transcript names, where the channels are those of a file. The
-/// call is made for this promise alone, and does nothing. It passes over the stations once, and takes no memory.
+/// Proves that a transcript can spell the numbers of this scenario and this book, if the channels are those of a
+/// file. Has no effect; passes over the stations once and allocates nothing.
 pub fn keeps_named_numbers(sc: &Scenario, book: &Book)
     ensures { HasFileChannels book.now → IsNamed sc.now book.now }
 {

@@ -1,4 +1,5 @@
-//! The reading of a transcript's beginning: of any first bytes of one, as far as whole parts of it are there.
+//! Reads the beginning of a transcript: any number of its first bytes, as far as its parts are complete. A run that
+//! was interrupted resumes from it.
 
 ghost use Rattle.std.specs.Prelude.{◌≡◌, [], None, false};
 ghost use Rattle.pack_defs.specs.Scenario.{StationsAscend};
@@ -19,7 +20,7 @@ use pack_defs::order::Order;
 use pack_defs::scenario::Scenario;
 use std::alloc::Global;
 
-// What is kept where a part was stopped by this error: this, where lines are wanted.
+// Returns `kept` if only lines are missing; passes any other error on.
 fn kept_at(why: TextErr, kept: Prefix) -> Result<Prefix, TextErr>
     ensures { result ≡ kept_at kept why }
 {
@@ -31,7 +32,7 @@ fn kept_at(why: TextErr, kept: Prefix) -> Result<Prefix, TextErr>
     }
 }
 
-// What is there without a start.
+// Returns a prefix without a start.
 fn unstarted(alloc: Global, order: Option<Order>) -> Prefix
     ensures { result ≡ record { order = order; start = None; steps = []; ended = false } }
 {
@@ -43,7 +44,7 @@ fn unstarted(alloc: Global, order: Option<Order>) -> Prefix
     }
 }
 
-// A transcript with its start, before its first step.
+// Returns a transcript with its start, before its first step.
 fn started(alloc: Global, order: Order, start: Shown) -> Transcript
     ensures { result ≡ record { order = order; start = start; steps = [] } }
 {
@@ -54,7 +55,11 @@ fn started(alloc: Global, order: Order, start: Shown) -> Transcript
     }
 }
 
-/// What is there of a transcript whose steps were read so, where no more whole lines come.
+/// Returns the complete part of a transcript, if no more lines come.
+///
+/// # Errors
+///
+/// `BadLine` if a line follows the `end` line.
 #[tactic(auto, unfolding(crate::specs::Pieces::there_by))]
 pub(crate) fn there_by<'a>(read: StepsRead<'a>) -> Result<Prefix, TextErr>
     ensures { Gives (λ p. p) (there_by read.entry) result }
@@ -76,7 +81,7 @@ pub(crate) fn there_by<'a>(read: StepsRead<'a>) -> Result<Prefix, TextErr>
     })
 }
 
-/// What is there of the transcript that begins so, where these are its lines.
+/// Returns the complete part of the transcript that begins with `begun` and continues with these lines.
 pub(crate) fn steps_there<'a>(
     alloc: Global,
     sc: &Scenario,
@@ -93,7 +98,7 @@ pub(crate) fn steps_there<'a>(
     }
 }
 
-// What is there behind the first line, which names this order.
+// Returns the complete part of the transcript whose first line names this order and whose other lines are these.
 fn start_there<'a>(
     alloc: Global,
     sc: &Scenario,
@@ -113,14 +118,15 @@ fn start_there<'a>(
     }
 }
 
-/// What is there of a transcript that begins with this text, of an auction by this scenario and this book. The text may end
-/// anywhere: bytes behind its last line end are dropped, and so are the start and a step whose lines aren't all there. It
-/// goes over the text once, as [`read_transcript`](crate::read::read_transcript) does, and takes memory for what it read.
+/// Returns the complete part of the transcript that begins with this text, for an auction of this scenario and this
+/// book. The text may end anywhere. Bytes after the last line end are dropped; the start and a step are dropped if
+/// some of their lines are missing. Makes one pass over the text, as
+/// [`read_transcript`](crate::read::read_transcript) does, and allocates the parts that it returns.
 ///
 /// # Errors
 ///
-/// `Version` where the first line is whole and names no version; `BadLine` of the first whole line that may not stand
-/// where it stands, or that stands behind the `end` line; `NoMemory` where memory ran out. `Truncated` never comes.
+/// `Version` if the first line is complete and names no version. `BadLine` for the first complete line that is not
+/// allowed at its place, or that follows the `end` line. `NoMemory` if memory runs out. Never `Truncated`.
 pub fn read_prefix(
     alloc: Global,
     text: &[u8],

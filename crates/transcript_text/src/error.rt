@@ -1,4 +1,4 @@
-//! Why a text is refused.
+//! The error of every reader in this crate.
 
 ghost use Rattle.std.specs.Prelude.{◌≡◌};
 ghost use Rattle.transcript_text.specs.declared.error.TextErr.TheVariants.{NoMemory};
@@ -6,11 +6,11 @@ ghost use Rattle.transcript_text.specs.declared.error.TextErr.TheVariants.{NoMem
 use std::alloc::{AllocError, AllocFailed};
 use thiserror::Error;
 
-/// Why a text is no transcript.
+/// Why a text is not a transcript.
 ///
-/// `Version`: the first line is whole, and names no version of transcripts. `BadLine`: the first whole line, counted
-/// from 1, that may not stand where it stands, or the place behind the `end` line, where any bytes stand there.
-/// `Truncated`: the text ends before its `end` line does. `NoMemory`: memory ran out.
+/// `Version`: the first line is complete and names no version of transcripts. `BadLine`: line `n`, counted from 1, is
+/// the first complete line that is not allowed at its place. Bytes after the `end` line count as a line. `Truncated`:
+/// the text ends before its `end` line. `NoMemory`: memory ran out.
 #[derive(Clone, Copy, Debug, PartialEq, Eq, Error)]
 pub enum TextErr {
     #[error("version")]

@@ -1,25 +1,25 @@
-//! What the first line of a step says, before the lines behind it are read.
+//! The content of a step's first line, before the lines after it are read. `heads` reads it.
 
 use pack_defs::pair::Pair;
 
-/// The test of a step.
+/// The test that a step answers.
 #[derive(Clone, Copy, Debug, PartialEq, Eq)]
 pub struct StepTest {
     /// The round, as the line has it.
     pub round: u32,
-    /// The station, by its facility number.
+    /// The station's facility number.
     pub station: u32,
 }
 
-/// What the first line of a step says, or the last line of a transcript.
+/// The content of a step's first line, or of a transcript's last line.
 #[derive(Clone, Copy, Debug, PartialEq, Eq)]
 pub enum Head {
-    /// `fit`: the test fits, by so many entries on the next lines.
+    /// `fit`: the test's set fits. The next `count` lines are the entries of its change.
     Fit {
         test: StepTest,
         count: u64,
     },
-    /// `same`: it fits as the same station's test one round before.
+    /// `same`: the test fits with the same change as the station's test one round before.
     Same {
         test: StepTest,
     },
@@ -27,19 +27,19 @@ pub enum Head {
     NoChannel {
         test: StepTest,
     },
-    /// `log`: this worker's proof, of so many lines.
+    /// `log`: a proof by this worker, of `count` lines.
     Log {
         test: StepTest,
         worker: u32,
         count: u64,
     },
-    /// `dead`: this worker's dead pair.
+    /// `dead`: a dead pair found by this worker.
     Dead {
         test: StepTest,
         worker: u32,
         pair: Pair,
     },
-    /// `outside`: a proof from outside, of so many lines.
+    /// `outside`: a proof from outside, of `count` lines.
     Outside {
         test: StepTest,
         count: u64,
@@ -48,6 +48,6 @@ pub enum Head {
     Undecided {
         test: StepTest,
     },
-    /// `end`: no step follows.
+    /// `end`: the last line. No step follows.
     End,
 }

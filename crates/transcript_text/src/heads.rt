@@ -1,4 +1,4 @@
-//! The first lines of steps, and the last line of a transcript.
+//! Reads the first line of a step, and the last line of a transcript. `steps` calls `head_at`.
 
 ghost use Rattle.std.specs.Prelude.{IfOk};
 ghost use Rattle.pack_defs.specs.Scenario.{StationsAscend};
@@ -15,7 +15,7 @@ use itoa::Buffer;
 use pack_defs::pair::Pair;
 use pack_defs::scenario::Scenario;
 
-// The round and the station.
+// Returns the round and the station, and the fields after them.
 #[tactic(auto, unfolding(crate::specs::Reading::step_test_at))]
 fn test_at<'a>(sc: &Scenario, line: LineFields<'a>) -> Result<(StepTest, LineFields<'a>), TextErr>
     requires { StationsAscend sc.now }
@@ -109,7 +109,7 @@ fn outside_head<'a>(sc: &Scenario, line: LineFields<'a>) -> Result<Head, TextErr
     Ok(Head::Outside { test, count })
 }
 
-// It counts a receipt of each worker.
+// Reads the rest of an `undecided` line: its test, and the count of receipts, which is one for each worker.
 #[tactic(auto, unfolding(crate::specs::Reading::undecided_head))]
 fn undecided_head<'a>(sc: &Scenario, line: LineFields<'a>) -> Result<Head, TextErr>
     requires { StationsAscend sc.now }
@@ -122,7 +122,7 @@ fn undecided_head<'a>(sc: &Scenario, line: LineFields<'a>) -> Result<Head, TextE
     Ok(Head::Undecided { test })
 }
 
-// It counts the steps.
+// Reads the rest of the `end` line: the count of the steps, spelled exactly.
 #[tactic(auto, unfolding(crate::specs::Reading::end_head))]
 fn end_head<'a>(steps: u64, line: LineFields<'a>) -> Result<Head, TextErr>
     ensures head { Gives (λ x. x) (end_head steps line.entry) result }
@@ -134,7 +134,7 @@ fn end_head<'a>(steps: u64, line: LineFields<'a>) -> Result<Head, TextErr>
     Ok(Head::End)
 }
 
-// The head with this word.
+// Reads the rest of the first line that begins with this word.
 fn head_by<'a>(
     sc: &Scenario,
     steps: u64,
@@ -172,7 +172,11 @@ fn head_by<'a>(
     Err(TextErr::BadLine { n: line.number })
 }
 
-/// What a step's first line says, or the last line, after this many steps.
+/// Reads the first line of a step, or the last line of a transcript that has `steps` steps so far.
+///
+/// # Errors
+///
+/// `BadLine` if the line is neither.
 #[tactic(auto, unfolding(crate::specs::Reading::head_at))]
 pub(crate) fn head_at<'a>(sc: &Scenario, steps: u64, line: LineFields<'a>) -> Result<Head, TextErr>
     requires { StationsAscend sc.now }

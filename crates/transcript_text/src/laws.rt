@@ -1,5 +1,4 @@
-//! What a transcript's text says, about the definitions alone: worked texts, and that a text which is written is read
-//! again.
+//! Laws of a transcript's text, which speak of the definitions alone: worked examples, and the round trip.
 
 ghost use Rattle.std.specs.Prelude.{◌≡◌, ◌≢◌, ◌<◌, ◌^◌, ◌∷◌, ◌++◌, [], ℕ, List, MatchResult, Ok, Err, codes, length, take, true};
 ghost use Rattle.auction_core.specs.declared.record.Shown.TheVariants as Shown;
@@ -22,7 +21,7 @@ ghost use Rattle.transcript_text.specs.PrefixSpelling.{prefix_spelling};
 ghost use Rattle.transcript_text.specs.Reading.{transcript_of};
 ghost use Rattle.transcript_text.specs.Spelling.{spelling, transcript_for, transcript_text};
 
-/// The transcript of the three stations' auction, both ways, and some texts that are refused.
+/// The transcript of the auction of three stations, written and read, and some texts that are rejected.
 pub fn text_of_three_stations()
     ensures written { spelling three_stations three_transcript ≡ three_text }
     ensures read { transcript_of three three_stations (codes "transcript 1\nstart empty\nfit 1 1 1\nat 1 14\nend 1\n") ≡ Ok (record { order = ByFacility; start = Shown.Empty; steps = fitted_step 1 1 14 ∷ [] }) }
@@ -37,40 +36,40 @@ pub fn text_of_three_stations()
     ensures wrong_count { transcript_of three three_stations (codes "transcript 1\nstart empty\nend 1\n") ≡ Err (BadLine 3) }
 {}
 
-/// A transcript that can be written is read again as itself.
+/// A transcript that can be written is read back as itself.
 pub fn a_written_transcript_is_read()
     ensures { (sc : Scenario) (book : BookView) (t : Transcript) → IsSpelled sc book t → transcript_of sc book (spelling book t) ≡ Ok t }
 {}
 
-/// The transcript of a backed record that was carried through is read again as itself, where the scenario, the book
-/// and the record are as those that the program makes.
+/// The transcript of a backed record of a finished auction is read back as itself. The scenario, the book and the
+/// record must be such as the program builds.
 pub fn a_records_transcript_is_read()
     ensures { (sc : Scenario) (book : BookView) (rec : Record) → IsBacked sc book rec.order rec → rec.ending ≡ Ending.Done → IsWithinLimits sc → IsNamed sc book → IsHeld rec → transcript_of sc book (transcript_text sc book rec) ≡ Ok (transcript_for sc book rec) }
 {}
 
-/// What is read is what its text says, and no other text says it: a text that is a transcript is the one that is
-/// written of it. The scenario's workers are counted in 32 bits.
+/// No two texts are the same transcript: a text that is read as a transcript is exactly the text that is written of
+/// it. The scenario's workers must be counted in 32 bits.
 pub fn a_transcript_has_one_text()
     ensures { (sc : Scenario) (book : BookView) (text : List ℕ) (t : Transcript) → length sc.workers < 2 ^ 32 → transcript_of sc book text ≡ Ok t → text ≡ spelling book t }
 {}
 
-/// A transcript that is all there is read as a beginning that has all of it, and its `end` line.
+/// A complete transcript, read as a beginning, is returned complete, with its `end` line.
 pub fn all_of_a_transcript_is_there()
     ensures { (sc : Scenario) (book : BookView) (text : List ℕ) (t : Transcript) → transcript_of sc book text ≡ Ok t → prefix_of sc book text ≡ Ok (transcript_there t true) }
 {}
 
-/// Any first bytes of a transcript's text are read as a beginning of it, whatever they are cut in.
+/// Any first bytes of a transcript's text are read as a beginning of it, wherever they are cut.
 pub fn a_beginning_is_read()
     ensures { (sc : Scenario) (book : BookView) (before after : List ℕ) (t : Transcript) → transcript_of sc book (before ++ after) ≡ Ok t → MatchResult (prefix_of sc book before) (λ kept. IsPrefixOf kept t) (λ why. ⊥) }
 {}
 
-/// No beginning is refused for what comes behind it.
+/// A beginning is never rejected because lines are missing.
 pub fn no_beginning_is_cut_short()
     ensures { (sc : Scenario) (book : BookView) (text : List ℕ) → prefix_of sc book text ≢ Err Truncated }
 {}
 
-/// What is kept of a text is what it begins with: the text of all that isn't dropped. The scenario's workers are counted
-/// in 32 bits.
+/// The part that is kept of a text is the text's beginning: its own text is what was not dropped. The scenario's
+/// workers must be counted in 32 bits.
 pub fn a_text_begins_with_what_is_kept()
     ensures { (sc : Scenario) (book : BookView) (text : List ℕ) (kept : Prefix) → length sc.workers < 2 ^ 32 → prefix_of sc book text ≡ Ok kept → take (length (prefix_spelling book kept)) text ≡ prefix_spelling book kept }
 {}

@@ -1,9 +1,26 @@
-//! The transcript of a finished auction: its record as a text, and back. What is written of a record can be looked at
-//! by whoever wants to check the auction, with whatever program; what is read is given to the check of a transcript.
+//! The text of a transcript. A transcript is the record of a finished auction, written so that any program can check
+//! it. This crate writes the text and reads it back; `transcript_check` checks what was read.
 //!
-//! It may call `auction_core`, `lrat_text` and what they stand on. It opens no file and judges no step: `transcript_check` does. Read
-//! `write` first, with `parts`, then `read`, with `steps`, then `reader` and `beginning`, for a text in pieces or cut; what a text says
-//! is in `laws`.
+//! The crate uses `auction_core`, `lrat_text` and the crates below them. It opens no file and checks no step.
+//!
+//! Modules, in reading order:
+//!
+//! - `write`: writes the transcript of a record.
+//! - `parts`: writes the first line, the start, one step, and the last line.
+//! - `test_set`: the stations that a test asks about.
+//! - `on_air`: the stations on air, as a set.
+//! - `read`: reads a complete transcript.
+//! - `steps`: reads the steps.
+//! - `heads` and `head`: read the first line of a step.
+//! - `reading`: reads the receipts of an undecided test.
+//! - `log_lines` and `log_field`: read lines of logs, entries and moves.
+//! - `fields`: splits lines and fields.
+//! - `reader`: reads a transcript that comes in pieces.
+//! - `pieces`: the whole lines of a piece.
+//! - `beginning`: reads a transcript that is cut short.
+//! - `again`: the preconditions of the round-trip law.
+//! - `laws`: the round-trip laws, and worked examples.
+//! - `error`: why a text is rejected.
 #![tactic(auto)]
 
 pub mod again;

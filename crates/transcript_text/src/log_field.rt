@@ -1,4 +1,5 @@
-//! The first field of what is left of a log's line, read as it is walked along.
+//! Reads the first field of what is left of a log's line in one pass. Most lines of a transcript are lines of logs,
+//! so this is the reader's inner loop. A field that the fast path does not know goes to `plain_field`.
 
 ghost use Rattle.std.specs.Prelude.{◌≡◌, ◌≤◌, ◌<◌, ◌∷◌, [], IfSome, Some, length, take, true};
 ghost use Rattle.std.specs.Option.{option_map_or};
@@ -14,11 +15,11 @@ use clause_db::lit::Lit;
 use lrat_text::field::Field;
 use lrat_text::lines::split_field;
 
-/// A number up to this has room for one digit more.
+/// A value up to this can take another decimal digit without exceeding the greatest number of a log's text.
 const ROOM_FOR_ONE: u64 = 922_337_203_685_477_579;
 
-/// The first field of a text, what it says as a number of a log's line, and what stands behind the space after it, if there
-/// is one.
+/// Returns the first field of a text, its meaning in a log's line, and what is after the space behind it. The last is
+/// `None` if the field ends the text.
 pub(crate) fn first_field<'a>(text: &'a [u8]) -> (&'a [u8], Option<Field>, Option<&'a [u8]>)
     ensures fields { fields_of text.now ≡ result.0.now ∷ option_map_or (λ rest. fields_of rest.now) result.2 [] }
     ensures said { result.1 ≡ plain_field result.0.now }
@@ -31,8 +32,8 @@ pub(crate) fn first_field<'a>(text: &'a [u8]) -> (&'a [u8], Option<Field>, Optio
     (field, plain_field(field), rest)
 }
 
-// The first field of a text where it is a number that can be read as it is walked along: where it ends, what it says, and what
-// stands behind the space after it.
+// Reads the first field if it is a plainly spelled literal. Returns the field's length, the literal, and what is
+// after the space behind it. Returns `None` if the fast path cannot tell.
 fn first_number<'a>(text: &'a [u8]) -> Option<(usize, Lit, Option<&'a [u8]>)>
     ensures fields { IfSome result (λ x. fields_of text.now ≡ take x.0 text.now ∷ option_map_or (λ rest. fields_of rest.now) x.2 []) }
     ensures said { IfSome result (λ x. plain_field (take x.0 text.now) ≡ Some (Number x.1)) }
@@ -56,8 +57,9 @@ fn first_number<'a>(text: &'a [u8]) -> Option<(usize, Lit, Option<&'a [u8]>)>
     Some((count, lit, rest))
 }
 
-// The first field of a text where it is a number from 1, of digits alone, with no 0 before them: where it ends, what it says,
-// and what stands behind the space after it. None where it isn't, or may be too great to be read so.
+// Reads the first field if it is a number from 1 in digits without leading zeros. Returns the field's length, the
+// number, and what is after the space behind it. Returns `None` if the field is anything else, or if the number may
+// be too great for this path.
 fn first_numeral<'a>(text: &'a [u8]) -> Option<(usize, u64, Option<&'a [u8]>)>
     ensures fields { IfSome result (λ x. fields_of text.now ≡ take x.0 text.now ∷ option_map_or (λ rest. fields_of rest.now) x.2 []) }
     ensures numeral { IfSome result (λ x. IsNumeral (take x.0 text.now) x.1) }
@@ -83,8 +85,8 @@ fn first_numeral<'a>(text: &'a [u8]) -> Option<(usize, u64, Option<&'a [u8]>)>
     }
 }
 
-// How many digits a text begins with, and what they say; where they could make more than a number may be, only the first of
-// them, which can't.
+// Returns how many digits the text begins with, and their value. Stops early at a digit that could exceed the
+// greatest number; the digits before it are returned.
 fn digits_at(text: &[u8]) -> (usize, u64)
     ensures count { result.0 ≤ length text.now }
     ensures digits { all_ascii_digits (take result.0 text.now) ≡ true }

@@ -1,4 +1,4 @@
-//! The stations on air, as a set that can be asked.
+//! The stations on air, as a `StationSet`, for the search of the stations that a test reaches.
 
 ghost use Rattle.std.specs.Prelude.{◌≡◌, IsTrue, length, map};
 ghost use Rattle.pack_defs.specs.Lists.{is_ascending};
@@ -8,12 +8,12 @@ use auction_core::clock::Standing;
 use pack_defs::station::Station;
 use packing_graph::station_set::StationSet;
 
-/// The stations of a list that stand on air, each found by halves.
+/// The stations of a list that are on air. A look-up costs a binary search.
 #[derive(Clone, Copy, Drop)]
 pub struct OnAir<'a> {
     /// The stations, ascending.
     pub stations: &'a [Station],
-    /// Where each of them stands.
+    /// The standing of each station, in the same order.
     pub standings: &'a [Standing],
     pub ghost ascending: { IsTrue (is_ascending (map (λ x. x.id) stations.now)) },
     pub ghost each: { length standings.now ≡ length stations.now },

@@ -1,4 +1,5 @@
-//! The lines of a transcript, written part by part: its first line, its start, a step and its last line.
+//! Writes the parts of a transcript: its first line, its start, a step and its last line. `write` calls them in
+//! order. Each function appends to a text and fails only if memory runs out.
 
 ghost use Rattle.std.specs.Prelude.{◌≡◌, ◌≤◌, ◌+◌, ◌^◌, ◌++◌, ◌∷◌, [], OnOk, codes, decimal, length, map};
 ghost use Rattle.std.specs.List.{All, flat_map};
@@ -17,7 +18,7 @@ use pack_defs::order::Order;
 use rup_check::line::Log;
 use std::alloc::AllocError as NoMemory;
 
-// Adds a line: a word, and numbers behind it.
+// Appends a line: a word, and numbers after it.
 fn push_line(text: &mut Vec<u8>, word: &[u8], numbers: &[u64]) -> Result<(), NoMemory>
     ensures { OnOk result (text.new.items ≡ text.old.items ++ line_of (word.now ∷ map decimal numbers.now)) }
 {
@@ -27,7 +28,7 @@ fn push_line(text: &mut Vec<u8>, word: &[u8], numbers: &[u64]) -> Result<(), NoM
     Ok(())
 }
 
-// Adds the lines of entries, each behind this word.
+// Appends a line for each entry, beginning with `word`.
 fn push_entries(text: &mut Vec<u8>, word: &[u8], entries: &[(u32, u8)]) -> Result<(), NoMemory>
     ensures { OnOk result (text.new.items ≡ text.old.items ++ flat_map (entry_text word.now) entries.now) }
 {
@@ -37,7 +38,7 @@ fn push_entries(text: &mut Vec<u8>, word: &[u8], entries: &[(u32, u8)]) -> Resul
     Ok(())
 }
 
-/// Adds the first line, which says in which order a round tests the stations.
+/// Appends the first line, which names the order in which a round tests the stations. Fails only if memory runs out.
 #[tactic(auto, unfolding(crate::specs::Spelling::version_text, lrat_text::specs::Lines::with_spaces))]
 pub(crate) fn push_version(text: &mut Vec<u8>, order: Order) -> Result<(), NoMemory>
     ensures { OnOk result (text.new.items ≡ text.old.items ++ version_text order) }
@@ -48,7 +49,7 @@ pub(crate) fn push_version(text: &mut Vec<u8>, order: Order) -> Result<(), NoMem
     }
 }
 
-/// Adds the last line, which counts the steps.
+/// Appends the last line, which counts the steps. Fails only if memory runs out.
 #[tactic(auto, unfolding(crate::specs::Spelling::end_text))]
 pub(crate) fn push_end(text: &mut Vec<u8>, steps: u64) -> Result<(), NoMemory>
     ensures { OnOk result (text.new.items ≡ text.old.items ++ end_text steps) }
@@ -56,7 +57,7 @@ pub(crate) fn push_end(text: &mut Vec<u8>, steps: u64) -> Result<(), NoMemory>
     push_line(text, b"end", &[steps])
 }
 
-/// Adds the start.
+/// Appends the start. Fails only if memory runs out.
 #[tactic(auto, unfolding(crate::specs::Spelling::start_text, lrat_text::specs::Lines::with_spaces))]
 pub(crate) fn push_start(text: &mut Vec<u8>, start: &Shown) -> Result<(), NoMemory>
     ensures { OnOk result (text.new.items ≡ text.old.items ++ start_text start.now) }
@@ -78,7 +79,7 @@ pub(crate) fn push_start(text: &mut Vec<u8>, start: &Shown) -> Result<(), NoMemo
     }
 }
 
-// Adds a receipt of a worker, whose log's first line has this number.
+// Appends a worker's receipt. `first` is the number of its log's first line.
 #[tactic(auto, unfolding(crate::specs::Spelling::receipt_text, lrat_text::specs::Lines::with_spaces))]
 fn push_receipt(
     text: &mut Vec<u8>,
@@ -105,7 +106,7 @@ fn push_receipt(
     }
 }
 
-// Adds the line of a proof's subset.
+// Appends the line of a proof's stations.
 fn push_subset(text: &mut Vec<u8>, subset: &[u32]) -> Result<(), NoMemory>
     ensures { OnOk result (text.new.items ≡ text.old.items ++ line_of (codes "on" ∷ map decimal subset.now)) }
 {
@@ -118,7 +119,7 @@ fn push_subset(text: &mut Vec<u8>, subset: &[u32]) -> Result<(), NoMemory>
     Ok(())
 }
 
-// Adds a worker's refutation of a test.
+// Appends a worker's refutation of a test: its round, station and worker.
 #[tactic(auto, unfolding(crate::specs::Spelling::refuted_text, lrat_text::specs::Lines::with_spaces))]
 fn push_refuted(
     text: &mut Vec<u8>,
@@ -151,7 +152,7 @@ fn push_refuted(
     }
 }
 
-// The number of a log's first line over this many clauses; 0 where it has no line.
+// Returns the number of a log's first line over this many clauses, or 0 if the log has no line.
 fn first_number(clauses: u64, log: &Log) -> u64
     requires { clauses + (most_counted + 1) ≤ 2 ^ 63 }
     ensures first { result ≡ first_number clauses log.now.lines }
@@ -163,7 +164,7 @@ fn first_number(clauses: u64, log: &Log) -> u64
     clauses + 1
 }
 
-// Adds a proof from outside of a test, over this many clauses of its set.
+// Appends a proof from outside of a test (round, station), over this many clauses of its set.
 #[tactic(auto, unfolding(crate::specs::Spelling::outside_text, lrat_text::specs::Lines::with_spaces))]
 fn push_outside(
     text: &mut Vec<u8>,
@@ -183,7 +184,7 @@ fn push_outside(
     Ok(())
 }
 
-// The number of the first line of a receipt's log over this many clauses; 0 where it has no line.
+// Returns the number of the first line of a receipt's log over this many clauses, or 0 if it has none.
 fn first_of(clauses: u64, receipt: &Receipt) -> u64
     requires { clauses + (most_counted + 1) ≤ 2 ^ 63 }
     ensures first { result ≡ first_of clauses receipt.now }
@@ -195,7 +196,7 @@ fn first_of(clauses: u64, receipt: &Receipt) -> u64
     }
 }
 
-// Adds receipts of the workers in order, over the clauses of their test's set.
+// Appends the receipts of the workers in order, over this many clauses of their test's set.
 fn push_receipts(text: &mut Vec<u8>, clauses: u64, receipts: &[Receipt]) -> Result<(), NoMemory>
     requires lines { All (λ x. lines_in x ≤ most_counted) receipts.now }
     requires few { clauses + (most_counted + 1) ≤ 2 ^ 63 }
@@ -208,7 +209,7 @@ fn push_receipts(text: &mut Vec<u8>, clauses: u64, receipts: &[Receipt]) -> Resu
     Ok(())
 }
 
-/// Adds a step, by how it was shown, over this many clauses of its test's set.
+/// Appends a step. `clauses` counts the clauses of its test's set. Fails only if memory runs out.
 #[tactic(auto, unfolding(crate::specs::Spelling::shown_text, lrat_text::specs::Lines::with_spaces))]
 pub(crate) fn push_step(
     text: &mut Vec<u8>,

@@ -1,4 +1,4 @@
-//! A text that is there in part: its whole lines, and what stands behind them.
+//! A text that came in part: its complete lines, and the begun line after them. `reader` uses these calls.
 
 ghost use Rattle.std.specs.Prelude.{◌≡◌, IfOk, length, take, true};
 ghost use Rattle.lrat_text.specs.Lines.{is_whole, ended_lines};
@@ -8,7 +8,7 @@ use crate::fields::TextLines;
 use lrat_text::lines::is_whole;
 use std::alloc::{AllocError as NoMemory, Global};
 
-/// How many lines these bytes end.
+/// Returns how many lines end within these bytes.
 pub(crate) fn line_ends(bytes: &[u8]) -> u64 {
     let mut ends = 0u64;
     for part in bytes.chunks(255) {
@@ -17,7 +17,8 @@ pub(crate) fn line_ends(bytes: &[u8]) -> u64 {
     ends
 }
 
-// How many of these bytes, fewer than 256, end a line. Without a branch for each byte that takes a sixth of the time.
+// Returns how many of these bytes, fewer than 256, end a line. The loop has no branch for a byte, which makes it six
+// times as fast.
 fn ends_of_few(bytes: &[u8]) -> u8 {
     let mut ends = 0u8;
     for byte in bytes {
@@ -26,7 +27,7 @@ fn ends_of_few(bytes: &[u8]) -> u8 {
     ends
 }
 
-/// The part of a text up to the end of its last whole line.
+/// Returns the part of a text up to the end of its last complete line.
 pub(crate) fn whole_part(text: &[u8]) -> &[u8]
     ensures front { result.now ≡ take (length result.now) text.now }
     ensures whole { is_whole result.now ≡ true }
@@ -39,8 +40,11 @@ pub(crate) fn whole_part(text: &[u8]) -> &[u8]
     &text[..end]
 }
 
-/// The whole lines of a text, of which the first has this number; no memory is wanted for them, but a number that has
-/// no room is told so.
+/// Returns the complete lines of a text, the first with this number. Allocates nothing.
+///
+/// # Errors
+///
+/// Returns `NoMemory` if a line's number could exceed 64 bits.
 pub(crate) fn lines_from(number: u64, text: &[u8]) -> Result<TextLines<'_>, NoMemory>
     ensures { IfOk result (λ lines. lines ≡ record { number = number; left = ended_lines text.now }) }
 {
@@ -50,7 +54,7 @@ pub(crate) fn lines_from(number: u64, text: &[u8]) -> Result<TextLines<'_>, NoMe
     }
 }
 
-/// The whole lines of a text, and behind them these bytes.
+/// Returns the complete lines of `text`, with `behind` after them. Fails only if memory runs out.
 pub(crate) fn kept_of(alloc: Global, text: &[u8], behind: &[u8]) -> Result<Vec<u8>, NoMemory>
     ensures { IfOk result (λ kept. HasLinesOf text.now behind.now kept.items) }
 {

@@ -1,4 +1,4 @@
-//! The reading of a whole transcript.
+//! Reads a complete transcript. `read_transcript` is the entry point; `reader` and `beginning` share the parts.
 
 ghost use Rattle.std.specs.Prelude.{◌≡◌};
 ghost use Rattle.pack_defs.specs.Scenario.{StationsAscend};
@@ -21,7 +21,7 @@ use pack_defs::order::Order;
 use pack_defs::scenario::Scenario;
 use std::alloc::Global;
 
-// The order of a round's tests that a first line names, if it names one.
+// Returns the order of tests that a first line names, or `None` if it names no version.
 #[tactic(auto, unfolding(crate::specs::Reading::order_of))]
 fn order_of(line: &[u8]) -> Option<Order>
     ensures { result ≡ order_of line.now }
@@ -35,7 +35,11 @@ fn order_of(line: &[u8]) -> Option<Order>
     None
 }
 
-/// The order that the first line names, and the lines behind it.
+/// Reads the first line. Returns the order that it names, and the lines after it.
+///
+/// # Errors
+///
+/// `Truncated` without a complete line, `Version` if the line names no version.
 pub(crate) fn version_at(text: &[u8]) -> Result<(Order, TextLines<'_>), TextErr>
     ensures { Gives (λ x. x) (version_at (ended_lines text.now)) result }
 {
@@ -52,7 +56,7 @@ pub(crate) fn version_at(text: &[u8]) -> Result<(Order, TextLines<'_>), TextErr>
     Ok((order, lines))
 }
 
-// A start that fits, by so many entries.
+// Reads the rest of a `start fit` line, and the entries after it.
 #[tactic(auto, unfolding(crate::specs::Reading::fit_start))]
 fn fit_start<'a>(
     alloc: Global,
@@ -70,7 +74,7 @@ fn fit_start<'a>(
     Ok((Shown::Fits(delta), rest))
 }
 
-// An empty start.
+// Reads the rest of a `start empty` line.
 #[tactic(auto, unfolding(crate::specs::Reading::empty_start))]
 fn empty_start<'a>(
     line: LineFields<'a>,
@@ -82,7 +86,7 @@ fn empty_start<'a>(
     Ok((Shown::Empty, lines))
 }
 
-// The start with this word, on the n-th line.
+// Reads the rest of line `n`, the start line, whose kind is `word`.
 fn start_by<'a>(
     alloc: Global,
     sc: &Scenario,
@@ -103,7 +107,7 @@ fn start_by<'a>(
     Err(TextErr::BadLine { n })
 }
 
-/// How the start test was settled.
+/// Reads how the start test was settled. Returns it, and the lines after it.
 #[tactic(auto, unfolding(crate::specs::Reading::start_at))]
 pub(crate) fn start_at<'a>(
     alloc: Global,
@@ -120,7 +124,11 @@ pub(crate) fn start_at<'a>(
     start_by(alloc, sc, n, kind, fields, rest)
 }
 
-/// That nothing stands behind the last line.
+/// Checks that nothing follows the last line. `whole` is whether the text ends with a complete line.
+///
+/// # Errors
+///
+/// `BadLine` if a line or a begun line follows.
 pub(crate) fn text_end<'a>(whole: bool, lines: TextLines<'a>) -> Result<(), TextErr>
     ensures { Gives (λ u. u) (text_end whole lines.entry) result }
 {
@@ -135,7 +143,7 @@ pub(crate) fn text_end<'a>(whole: bool, lines: TextLines<'a>) -> Result<(), Text
     }
 }
 
-/// The transcript at its start, and the lines behind that.
+/// Reads the first line and the start. Returns a transcript without steps, and the lines after them.
 #[tactic(auto, unfolding(crate::specs::Pieces::opened_at))]
 pub(crate) fn opened_at<'a>(
     alloc: Global,
@@ -155,7 +163,11 @@ pub(crate) fn opened_at<'a>(
     Ok((begun, lines))
 }
 
-/// The transcript that reading came to, where no more lines come.
+/// Returns the transcript that was read, if no more lines come.
+///
+/// # Errors
+///
+/// `Truncated` if the `end` line is missing, `BadLine` if anything follows it.
 #[tactic(auto, unfolding(crate::specs::Pieces::ended_by))]
 pub(crate) fn ended_by<'a>(whole: bool, read: StepsRead<'a>) -> Result<Transcript, TextErr>
     ensures { Gives (λ t. t) (ended_by whole read.entry) result }
@@ -168,7 +180,8 @@ pub(crate) fn ended_by<'a>(whole: bool, read: StepsRead<'a>) -> Result<Transcrip
     Err(TextErr::Truncated)
 }
 
-/// The transcript that begins so, where these lines are its last; and whether the text ends with the last of them.
+/// Returns the transcript that begins with `begun` and ends with these lines. `whole` is whether the text ends with a
+/// complete line.
 pub(crate) fn goes_on<'a>(
     alloc: Global,
     sc: &Scenario,
@@ -186,16 +199,16 @@ pub(crate) fn goes_on<'a>(
     }
 }
 
-/// The transcript that a text says, of an auction by this scenario and this book. It goes over the text once, but for
-/// the first line of a receipt's log and of a proof from outside, whose number is read before it; and for each proof
-/// over some stations it counts the clauses of these, by their pairs. It takes memory for what it read, whatever the
-/// counts say that the text states.
+/// Returns the transcript that a text spells, for an auction of this scenario and this book. Makes one pass over the
+/// text. Only the first line of a receipt's log or of a proof from outside is read twice, for its number. Each proof
+/// over stations also costs the count of their clauses, by their pairs. Memory grows with what was read, never with
+/// the counts that the text states.
 ///
 /// # Errors
 ///
-/// `Version` where the first line is whole and names no version; `BadLine` of the first whole line that may not stand
-/// where it stands, or where any bytes stand behind the `end` line; `Truncated` where the text ends before its `end`
-/// line does; `NoMemory` where memory ran out.
+/// `Version` if the first line is complete and names no version. `BadLine` for the first complete line that is not
+/// allowed at its place, or if any bytes follow the `end` line. `Truncated` if the text ends before its `end` line.
+/// `NoMemory` if memory runs out.
 pub fn read_transcript(
     alloc: Global,
     text: &[u8],

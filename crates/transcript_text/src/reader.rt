@@ -1,7 +1,10 @@
-//! The reader of a transcript that comes in pieces. Whatever the text's length, it holds no more of it than the step that is
-//! read and one piece: a step is tried once as many lines are there as its first line counts. The start and receipts are
-//! counted by no first line; there each try wants twice the lines of the one before, and up to twice the step is held. The
-//! text may be a whole transcript, or the beginning of one.
+//! An incremental reader of a transcript. `feed` takes the text in pieces; `finish` returns the transcript, and
+//! `finish_prefix` the part of it that is complete.
+//!
+//! The reader keeps the steps that it has read, one piece, and the bytes of the step that is not complete. The first
+//! line of a step counts its lines, so the step is read only once they are all there. The start and the receipts of
+//! an undecided test have no such count. For these each attempt waits for twice the lines of the last one, so up to
+//! twice their text is kept.
 
 ghost use Rattle.std.specs.Prelude.{◌≡◌, ◌++◌, [], ℕ, IfOk, IfSome, List};
 ghost use Rattle.pack_defs.specs.Scenario.{StationsAscend};
@@ -29,32 +32,32 @@ use pack_defs::scenario::Scenario;
 use std::alloc::{AllocError as NoMemory, Global};
 use std::marker::Model;
 
-/// How far the reading of a transcript came.
+/// How far the reader has come.
 #[derive(Drop)]
 pub(crate) enum Stage {
-    /// Not behind the start.
+    /// Before the end of the start.
     Opening,
-    /// Behind the start, and the last of these steps.
+    /// After the start, and after the last of these steps.
     Steps(Transcript),
-    /// Behind the `end` line.
+    /// After the `end` line.
     Whole(Transcript),
-    /// To the first fault.
+    /// At the first error.
     Refused(TextErr),
 }
 
-/// Reads a transcript that comes in pieces, cut anywhere. What it says and why it is refused is told at
+/// Reads a transcript that comes in pieces, cut anywhere. The result and the errors are those of
 /// [`read_transcript`](crate::read::read_transcript).
 #[derive(Drop)]
 pub struct TranscriptReader {
     alloc: Global,
     stage: Stage,
-    // The number of the first line that isn't read.
+    // The number of the first line that is not read.
     number: u64,
     // The bytes from that line on.
     left: Vec<u8>,
-    // How many whole lines they have.
+    // How many complete lines `left` has.
     lines: u64,
-    // With how many the next step may be whole.
+    // How many complete lines the next attempt waits for.
     wanted: u64,
 }
 
@@ -66,7 +69,7 @@ impl Model for TranscriptReader {
     ghost view = { λ r. record { stage = r.stage; number = r.number; left = r.left.items } };
 }
 
-// The stage where reading stopped by this error: this one, where lines are wanted.
+// Returns the stage after this error: `waiting` if lines are missing, otherwise the error.
 fn stage_by(why: TextErr, waiting: Stage) -> Result<Stage, NoMemory>
     ensures { IfOk result (λ stage. IsStageBy why waiting stage) }
 {
@@ -78,7 +81,7 @@ fn stage_by(why: TextErr, waiting: Stage) -> Result<Stage, NoMemory>
     }
 }
 
-// Reads steps, as far as whole ones are there.
+// Reads steps, as far as they are complete.
 fn steps_read<'a>(
     alloc: Global,
     sc: &Scenario,
@@ -100,7 +103,7 @@ fn steps_read<'a>(
     }
 }
 
-// Reads from the first line on, as far as whole steps are there.
+// Reads from the first line on, as far as steps are complete.
 fn opening_read<'a>(
     alloc: Global,
     sc: &Scenario,
@@ -116,7 +119,7 @@ fn opening_read<'a>(
     }
 }
 
-// Reads on from a stage, as far as whole steps are there.
+// Continues from a stage, as far as steps are complete.
 fn stage_read<'a>(
     alloc: Global,
     sc: &Scenario,
@@ -135,8 +138,8 @@ fn stage_read<'a>(
     }
 }
 
-// How many lines the step has whose first line is the next one, as far as that line tells: receipts count their own.
-// `there` of them are there, and are too few.
+// Returns how many lines to wait for before the step that begins at the next line is tried again. The first line of
+// the step tells it, except for an undecided test: then it is twice `there`, the complete lines that did not suffice.
 fn step_lines<'a>(sc: &Scenario, steps: usize, lines: TextLines<'a>, there: u64) -> u64
     requires { StationsAscend sc.now }
 {
@@ -155,7 +158,7 @@ fn step_lines<'a>(sc: &Scenario, steps: usize, lines: TextLines<'a>, there: u64)
     }
 }
 
-// With how many whole lines reading on pays, where these are there.
+// Returns how many complete lines to wait for before the next attempt. `there` lines did not suffice for the last.
 fn lines_wanted<'a>(sc: &Scenario, stage: &Stage, lines: TextLines<'a>, there: u64) -> u64
     requires { StationsAscend sc.now }
 {
@@ -168,7 +171,7 @@ fn lines_wanted<'a>(sc: &Scenario, stage: &Stage, lines: TextLines<'a>, there: u
 }
 
 impl TranscriptReader {
-    /// A reader before the first byte.
+    /// Returns a reader before the first byte.
     pub fn new(alloc: Global) -> TranscriptReader
         ensures { (sc : Scenario) (book : BookView) → HasRead sc book [] result }
     {
@@ -182,7 +185,7 @@ impl TranscriptReader {
         }
     }
 
-    // A reader of a text with this fault, which keeps no more of it.
+    // Returns a reader that has found this error and keeps no bytes.
     fn refused(alloc: Global, why: TextErr) -> TranscriptReader
         ensures { result.stage ≡ Refused why }
     {
@@ -196,7 +199,7 @@ impl TranscriptReader {
         }
     }
 
-    // With a piece more, of which nothing is read.
+    // Returns the reader with another piece, which is not read yet.
     fn with_piece(self, piece: &[u8]) -> Result<TranscriptReader, NoMemory>
         ensures { IfOk result (λ fed. fed ≡ record { stage = self.stage; number = self.number; left = self.left ++ piece.now }) }
     {
@@ -219,7 +222,7 @@ impl TranscriptReader {
         })
     }
 
-    // The fault that the text has, whatever comes behind what is there.
+    // Returns the error that the text has whatever bytes follow, if one is known.
     fn fault(&self) -> Option<TextErr>
         ensures { IfSome result (λ why. (sc : Scenario) (book : BookView) → IsFaulty sc book self.now why) }
     {
@@ -233,7 +236,7 @@ impl TranscriptReader {
         }
     }
 
-    // Reads on, as far as whole steps are there.
+    // Reads as far as steps are complete.
     fn read_on(self, sc: &Scenario, book: &Book) -> Result<TranscriptReader, NoMemory>
         requires { StationsAscend sc.now }
         ensures { IfOk result (λ read. ReadsSame sc.now book.now self read) }
@@ -261,12 +264,12 @@ impl TranscriptReader {
         })
     }
 
-    /// Reads the next piece of the text, a transcript of an auction by this scenario and this book, or the beginning of
-    /// one. A fault is told by `finish` and `finish_prefix`.
+    /// Reads the next piece of the text: a transcript of an auction of this scenario and this book, or its beginning.
+    /// `finish` and `finish_prefix` report an invalid line.
     ///
     /// # Errors
     ///
-    /// `NoMemory` where memory ran out. The reader is gone then.
+    /// `NoMemory` if memory runs out. The reader is dropped then.
     pub fn feed(
         self,
         sc: &Scenario,
@@ -288,7 +291,7 @@ impl TranscriptReader {
         }
     }
 
-    /// The transcript that the whole text says, which ends here.
+    /// Returns the transcript of the complete text, which ends here.
     ///
     /// # Errors
     ///
@@ -323,7 +326,7 @@ impl TranscriptReader {
         }
     }
 
-    /// What is there of the transcript that begins with the text, which ends here.
+    /// Returns the complete part of the transcript that begins with the text, which ends here.
     ///
     /// # Errors
     ///

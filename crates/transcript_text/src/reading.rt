@@ -1,4 +1,5 @@
-//! The reading of an undecided test's receipts, and of a log whose first line may have any number.
+//! Reads the receipts of an undecided test, and a log whose first line may have any number. `steps` calls
+//! `receipts_at` and `numbered_log`.
 
 ghost use Rattle.std.specs.Prelude.{◌≡◌, ◌≤◌, ◌++◌, ◌∷◌, IfOk, [], length};
 ghost use Rattle.pack_defs.specs.Scenario.{StationsAscend};
@@ -20,7 +21,7 @@ use rup_check::lines::Lines;
 use std::alloc::{AllocError as NoMemory, Global};
 use std::marker::Model;
 
-/// A log, and the number of its first line; 0 where it has none.
+/// A log, and the number of its first line, which is 0 if the log is empty.
 #[derive(Drop)]
 pub(crate) struct NumberedLog {
     pub(crate) log: Log,
@@ -35,7 +36,7 @@ impl Model for NumberedLog {
     ghost view = { λ s. record { log = s.log; first = s.first } };
 }
 
-/// A receipt, and the number of its log's first line; 0 where it has none.
+/// A receipt, and the number of its log's first line, which is 0 if it has none.
 #[derive(Drop)]
 pub(crate) struct NumberedReceipt {
     receipt: Receipt,
@@ -50,7 +51,7 @@ impl Model for NumberedReceipt {
     ghost view = { λ s. record { receipt = s.receipt; first = s.first } };
 }
 
-// One line of a log, or more, of which the first has any number.
+// Reads a log of one line or more. The first line may have any number.
 #[tactic(auto, unfolding(crate::specs::Reading::some_log))]
 fn some_log<'a>(
     alloc: Global,
@@ -67,7 +68,12 @@ fn some_log<'a>(
     Ok((NumberedLog { log, first }, rest))
 }
 
-/// A log of so many lines, of which the first has any number, as the clauses that it goes on from are not known here.
+/// Reads a log of `count` lines. The first line may have any number, because the number of clauses before it is not
+/// known here. Returns the log, and the lines after it.
+///
+/// # Errors
+///
+/// `Truncated` if lines are missing, `BadLine` for the first invalid line, `NoMemory` if memory runs out.
 #[tactic(auto, unfolding(crate::specs::Reading::numbered_log))]
 pub(crate) fn numbered_log<'a>(
     alloc: Global,
@@ -86,7 +92,7 @@ pub(crate) fn numbered_log<'a>(
     some_log(alloc, count, lines)
 }
 
-// A receipt of so many lines.
+// Reads a receipt of `count` log lines.
 #[tactic(auto, unfolding(crate::specs::Reading::lines_receipt))]
 fn lines_receipt<'a>(
     alloc: Global,
@@ -102,7 +108,7 @@ fn lines_receipt<'a>(
     Ok((NumberedReceipt { receipt, first }, rest))
 }
 
-// Moves, as many as that.
+// Reads a receipt of `count` moves.
 #[tactic(auto, unfolding(crate::specs::Reading::moves_receipt))]
 fn moves_receipt<'a>(
     alloc: Global,
@@ -118,7 +124,7 @@ fn moves_receipt<'a>(
     Ok((NumberedReceipt { receipt, first: 0 }, rest))
 }
 
-// The worker and the count of a receipt's first line.
+// Reads the rest of a receipt's first line: this worker, and a count, which is returned.
 #[tactic(auto, unfolding(crate::specs::Reading::receipt_count))]
 fn receipt_count<'a>(worker: u64, line: LineFields<'a>) -> Result<u64, TextErr>
     ensures count { Gives (λ x. x) (receipt_count worker line.entry) result }
@@ -130,7 +136,7 @@ fn receipt_count<'a>(worker: u64, line: LineFields<'a>) -> Result<u64, TextErr>
     Ok(count)
 }
 
-// The receipt with this word, on the n-th line.
+// Reads the receipt whose first line, line `n`, begins with `word`.
 fn receipt_by<'a>(
     alloc: Global,
     sc: &Scenario,
@@ -152,7 +158,7 @@ fn receipt_by<'a>(
     Err(TextErr::BadLine { n })
 }
 
-// The receipt of this worker.
+// Reads the receipt of this worker.
 #[tactic(auto, unfolding(crate::specs::Reading::receipt_at))]
 fn receipt_at<'a>(
     alloc: Global,
@@ -170,7 +176,7 @@ fn receipt_at<'a>(
     receipt_by(alloc, sc, n, word, count, rest)
 }
 
-/// The receipts that were read, and the number of each one's first line.
+/// The receipts that were read, and the number of each log's first line.
 #[derive(Drop)]
 pub(crate) struct Receipts {
     pub(crate) receipts: Vec<Receipt>,
@@ -186,7 +192,7 @@ impl Model for Receipts {
     ghost view = { λ s. (s.receipts.items, s.firsts.items) };
 }
 
-// One receipt more.
+// Returns the receipts with another one at the end.
 fn with_receipt(so_far: Receipts, found: NumberedReceipt) -> Result<Receipts, NoMemory>
     ensures { IfOk result (λ new. new ≡ (so_far.0 ++ found.receipt ∷ [], so_far.1 ++ found.first ∷ [])) }
 {
@@ -200,7 +206,11 @@ fn with_receipt(so_far: Receipts, found: NumberedReceipt) -> Result<Receipts, No
     Ok(Receipts { receipts, firsts })
 }
 
-/// A receipt of each worker.
+/// Reads a receipt of each worker. Returns the receipts, and the lines after them.
+///
+/// # Errors
+///
+/// `Truncated` if lines are missing, `BadLine` for the first invalid line, `NoMemory` if memory runs out.
 pub(crate) fn receipts_at<'a>(
     alloc: Global,
     sc: &Scenario,

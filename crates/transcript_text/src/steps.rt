@@ -1,4 +1,4 @@
-//! The reading of a transcript's steps.
+//! Reads the steps of a transcript. `read`, `reader` and `beginning` call `steps_on`.
 
 ghost use Rattle.std.specs.Prelude.{◌≡◌, ◌≤◌, IfOk};
 ghost use Rattle.pack_defs.specs.Scenario.{StationsAscend};
@@ -27,7 +27,7 @@ use rup_check::line::Log;
 use std::alloc::Global;
 use std::marker::Model;
 
-// A step of a transcript.
+// Returns a step of a transcript.
 fn step_of(test: StepTest, shown: Shown, firsts: Vec<u64>) -> TranscriptStep
     ensures { result ≡ step_of test shown firsts.items }
 {
@@ -41,7 +41,7 @@ fn step_of(test: StepTest, shown: Shown, firsts: Vec<u64>) -> TranscriptStep
     }
 }
 
-// A test that fits, by so many entries.
+// Reads a `fit` step: `count` entries.
 #[tactic(auto, unfolding(crate::specs::Reading::fit_step))]
 fn fit_step<'a>(
     alloc: Global,
@@ -59,7 +59,7 @@ fn fit_step<'a>(
     Ok((step, rest))
 }
 
-// The subset on the line behind the first, and the log over its clauses.
+// Reads a `log` step: the stations on the next line, and the log over their clauses.
 #[tactic(auto, unfolding(crate::specs::Reading::log_step))]
 fn log_step<'a>(
     alloc: Global,
@@ -87,7 +87,7 @@ fn log_step<'a>(
     Ok((step, rest))
 }
 
-// A log whose first line may have any number.
+// Reads an `outside` step: a log whose first line may have any number.
 #[tactic(auto, unfolding(crate::specs::Reading::outside_step))]
 fn outside_step<'a>(
     alloc: Global,
@@ -105,7 +105,7 @@ fn outside_step<'a>(
     Ok((step, rest))
 }
 
-// A receipt of each worker.
+// Reads an `undecided` step: a receipt of each worker.
 #[tactic(auto, unfolding(crate::specs::Reading::undecided_step))]
 fn undecided_step<'a>(
     alloc: Global,
@@ -122,7 +122,7 @@ fn undecided_step<'a>(
     Ok((step_of(test, shown, firsts), rest))
 }
 
-// The step of this first line, if it isn't the last line.
+// Reads the step that begins with this first line, or returns no step if it is the `end` line.
 #[tactic(auto, unfolding(crate::specs::Reading::step_at))]
 fn step_at<'a>(
     alloc: Global,
@@ -173,7 +173,7 @@ fn step_at<'a>(
     }
 }
 
-// The next step, after this many; none at the last line.
+// Reads the next step after `steps` steps, or returns no step at the `end` line.
 #[tactic(auto, unfolding(crate::specs::Reading::next_step))]
 fn next_step<'a>(
     alloc: Global,
@@ -190,7 +190,7 @@ fn next_step<'a>(
     step_at(alloc, sc, book, head, rest)
 }
 
-/// What reading steps came to: the transcript with them, the lines behind them, and whether its `end` line was read.
+/// What was read: the transcript so far, the lines after it, and whether its `end` line was read.
 #[derive(Drop)]
 pub(crate) struct StepsRead<'a> {
     pub(crate) begun: Transcript,
@@ -206,7 +206,7 @@ impl<'a> Model for StepsRead<'a> {
     ghost view = { λ s. record { begun = s.begun; rest = s.rest; ended = s.ended } };
 }
 
-// What reading came to, with these steps.
+// Returns what was read, with these steps.
 fn so_far<'a>(
     order: Order,
     start: Shown,
@@ -228,7 +228,7 @@ fn so_far<'a>(
     }
 }
 
-// What stopped by this error comes to: want of lines is none.
+// Returns what was read if only lines are missing; passes any other error on.
 fn stopped<'a>(why: TextErr, read: StepsRead<'a>) -> Result<StepsRead<'a>, TextErr>
     ensures { result ≡ stopped why read.entry }
 {
@@ -240,8 +240,12 @@ fn stopped<'a>(why: TextErr, read: StepsRead<'a>) -> Result<StepsRead<'a>, TextE
     }
 }
 
-/// Reads on from the steps that a transcript begins with, up to the last line, or as far as whole steps are there. No
-/// error is for want of lines.
+/// Reads steps after those of `begun`, up to the `end` line or as far as they are complete. Returns them with the
+/// lines that are not read.
+///
+/// # Errors
+///
+/// `BadLine` for the first invalid line, `NoMemory` if memory runs out. Missing lines are no error.
 pub(crate) fn steps_on<'a>(
     alloc: Global,
     sc: &Scenario,

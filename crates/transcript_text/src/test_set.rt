@@ -1,4 +1,4 @@
-//! What a test asks about, by where each station stands.
+//! The stations that a test asks about, given which stations are on air.
 
 ghost use Rattle.std.specs.Prelude.{◌≡◌, IfOk, IsTrue, length};
 ghost use Rattle.pack_defs.specs.ClockRule.{ClockState};
@@ -14,9 +14,9 @@ use pack_defs::scenario::Scenario;
 use packing_graph::component::component_among;
 use std::alloc::{AllocError as NoMemory, Global};
 
-/// The stations that a test of this station asks about where the clock stands so, ascending: those that it reaches among the
-/// stations on air, and itself. It costs the neighbours of the stations reached, each found on the air by halves. The only
-/// error is want of memory.
+/// Returns the stations that a test of this station asks about, ascending: the station, and those that it reaches
+/// among the stations on air. Each neighbour of a station reached costs a binary search in the stations on air. Fails
+/// only if memory runs out.
 pub fn test_set(
     alloc: Global,
     sc: &Scenario,

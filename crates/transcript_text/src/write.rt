@@ -1,6 +1,5 @@
-//! The transcript of a finished record, as a text. The steps are written in turn, beside a clock of their own: it
-//! says which stations are on air when a step's test is asked, hence over how many clauses the step's logs are
-//! numbered.
+//! Writes the transcript of a finished record. The writer moves a clock of its own along the steps. The clock shows
+//! which stations are on air at a step's test, and so after how many clauses the step's logs are numbered.
 
 ghost use Rattle.std.specs.Prelude.{◌≡◌, ◌≤◌, ◌+◌, ◌<◌, ◌^◌, [], IfOk, IsTrue, OnOk, length};
 ghost use Rattle.pack_defs.specs.ClockRule.{ClockState, opening_state};
@@ -25,7 +24,8 @@ use pack_defs::book::Book;
 use pack_defs::scenario::Scenario;
 use std::alloc::{AllocError as NoMemory, Global};
 
-// How many clauses the formula of a test's set has: of the stations that its station reaches among those on air.
+// Returns how many clauses the formula of a test's set has. The set is the station and those that it reaches among
+// the stations on air.
 fn test_clauses(
     alloc: Global,
     sc: &Scenario,
@@ -43,8 +43,8 @@ fn test_clauses(
     Ok(clause_count(book, &set))
 }
 
-// How many clauses the logs of a step go on from: of its test's set, where it has a log over that; else none is
-// counted.
+// Returns how many clauses the logs of a step are numbered after. Only a proof from outside and an undecided test
+// have logs over their test's set; for any other step the result is 0.
 fn log_clauses(
     alloc: Global,
     sc: &Scenario,
@@ -67,11 +67,12 @@ fn log_clauses(
     }
 }
 
-/// The transcript of a record, as a text: its first line says in which order a round tests the stations, then come
-/// the start, each step, and a last line that counts the steps. The book is the one by which the record is backed.
-/// The text is written once from its start to its end; a step costs what it has to say, one with a proof also what the
-/// pairs of the proof's stations cost, and one that is undecided or shown from outside what its test's stations and
-/// their pairs cost. The only error is want of memory.
+/// Returns the transcript of a record, which is backed by this book. The first line names the order in which a round
+/// tests the stations. The start, each step, and a last line that counts the steps follow.
+///
+/// The text is written in one pass. A step costs the length of its text. A step with a proof also costs the pairs of
+/// the proof's stations. An undecided step, and one with a proof from outside, also cost the stations of their test
+/// and these stations' pairs. Fails only if memory runs out.
 pub fn write_transcript(alloc: Global, rec: &Record, book: &Book) -> Result<Vec<u8>, NoMemory>
     requires backed { IsBacked rec.now.scenario book.now rec.now.order rec.now }
     requires done { rec.now.ending ≡ Ending.Done }
@@ -86,7 +87,8 @@ pub fn write_transcript(alloc: Global, rec: &Record, book: &Book) -> Result<Vec<
     Ok(text)
 }
 
-// Adds the transcript to an empty text, by the prices of the rounds and a clock before its first round.
+// Appends the transcript to an empty text. `offers` are the prices of the rounds, and `clock` is the clock before the
+// first round.
 fn push_transcript(
     alloc: Global,
     text: &mut Vec<u8>,

@@ -1,4 +1,4 @@
--- How passes are made and joined, and what is left once one pass has taken in every other.
+-- How passes are made and joined, and what is left once all passes are joined into one. For `make` and `close`.
 use Rattle.std.proofs.Common.{◌≡◌, ◌≢◌, ◌∙◌, ◌⊎◌, ℕ, ◌+◌, ◌^◌, ◌<◌, ◌==◌, List, [], ◌∷◌, ◌++◌, length, map, set, false, Option, Some, None, refl, sym, ap, subst, arith, inl, inr, ⊎_elim, suc, length-set, length-append, eq-eqb, ne_eqb}
 use Rattle.std.specs.Prelude.{if◌then◌else◌, unwrap_or, option_map}
 use mathlib.Core.Option.{some, some-injective}
@@ -13,7 +13,7 @@ use Rattle.turn_lock.proofs.Lists.{all_map, all_more, at_more, by_none, each_set
 use Rattle.turn_lock.proofs.Views.{Fit, apart, elsewhere, living, put_at, put_else, put_here, still, still_else, turning}
 use Rattle.turn_lock.proofs.Weighs.{weighs_once}
 
--- a function whose one value is changed
+-- a function with one value changed
 abbrev moved : ℕ → ℕ → (ℕ → ℕ) → ℕ → ℕ
 moved from to f t = if f t == from then to else f t
 
@@ -98,7 +98,7 @@ module _ {T B E : Type 0} (base_of : T → B) (entries : T → List (ℕ × E)) 
   either_is None b n e = inr e
   either_is (Some k) b n e = inl e
 
-  -- one pass is joined into another, and is spent
+  -- one pass is joined into another and becomes `nobody`
   pub joins : (id : ℕ) (v : V) (other : ℕ) (w : V) (a b : B) → v.base ≡ Some a → w.base ≡ Some b → v.ticket ≡ None → w.ticket ≡ None → v.turn ≡ false → w.turn ≡ false → Joins Rule id v other w (joined_view v w) nobody
   joins id v other w a b based w_based no_ticket w_none out w_out s r at apart_from there =
       let m = r.at in
@@ -155,7 +155,7 @@ module _ {T B E : Type 0} (base_of : T → B) (entries : T → List (ℕ × E)) 
   held_by made tail holder seat n p [] h g = absurd g
   held_by made tail holder seat n p (k ∷ ks) h g = ⊎_elim (λ e. ap holder (sym e) ∙ h.0.0.holds) (held_by made tail holder seat n p ks h.1) g
 
-  -- a view that has taken in every pass and is in no turn leaves the value at home, which stands for the base and a history of all of them
+  -- a view that has taken in every pass and has no turn leaves the value in the slot, with the lock's base and the complete history
   pub settles : (id : ℕ) (v : V) (b : B) (n : ℕ) → v.base ≡ Some b → v.made ≡ Some n → v.turn ≡ false → ((p : ℕ) → p < n → Knows p (map numbered (v.own ∷ v.joined))) → (s : State (Option T) V) → Seen Rule id v s
       → (value : T) × (tail : List (ℕ × E)) × (s.homes ≡ some (Some value) ∷ []) × (base_of value ≡ base) × (entries value ≡ start ++ tail) × AllOf (λ e. e.0 < n) tail × AllOf (IsKnownAs start tail) (v.own ∷ v.joined)
   settles id v b n based makes out all s seen =
@@ -179,7 +179,7 @@ module _ {T B E : Type 0} (base_of : T → B) (entries : T → List (ℕ × E)) 
         (record { prefix = mine.own.prefix; mine = mine.own.mine }, all_map (λ k f. record { prefix = f.0.prefix; mine = f.0.mine }) v.joined mine.others),
       )
 
-  -- so the slot of a closed table has the value
+  -- the slot of a closed table has the value
   pub ends : (id : ℕ) (v : V) (b : B) (n : ℕ) → v.base ≡ Some b → v.made ≡ Some n → v.turn ≡ false → length (v.own ∷ v.joined) ≡ n → ((p : ℕ) → p < n → Knows p (map numbered (v.own ∷ v.joined))) → (ws : List ℕ) (xs : List (Option T)) → Final (Seen Rule id v) ws xs
       → (slot : Option T) → get_elem? xs 0 ≡ some slot → (value : T) × (slot ≡ Some value) × (base_of value ≡ base) × IsWhole n start (entries value) (v.own ∷ v.joined)
   ends id v b n based makes out many all ws xs f slot at =

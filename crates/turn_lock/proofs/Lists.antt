@@ -44,14 +44,14 @@ one_slot [] a e = absurd (omega arith)
 one_slot (x ∷ []) a e = refl
 one_slot (x ∷ y ∷ l) a e = absurd (omega arith)
 
--- an element of a list with one more: an old one, or the new one at the end
+-- an element of a list with one more: an old element, or the new one at the end
 pub at_more : {A : Type 0} (l : List A) (a b : A) (j : ℕ) → get_elem? (l ++ a ∷ []) j ≡ some b → (get_elem? l j ≡ some b) ⊎ ((j ≡ length l) × (a ≡ b))
 at_more [] a b zero e = inr (refl, some-injective a b e)
 at_more [] a b (suc j) e = absurd (some-ne-none b (sym e))
 at_more (x ∷ l) a b zero e = inl e
 at_more (x ∷ l) a b (suc j) e = ⊎_elim inl (λ t. inr (ap suc t.0, t.1)) (at_more l a b j e)
 
--- what holds of the changed one and of each other holds of each
+-- a fact that holds of the changed element and of each other one holds of each
 pub each_set : {A : Type 0} (Q : ℕ → A → Type 0) (l : List A) (i : ℕ) (w : A) → Q i w → ((j : ℕ) (a : A) → j ≢ i → get_elem? l j ≡ some a → Q j a) → (j : ℕ) (a : A) → get_elem? (set l i w) j ≡ some a → Q j a
 each_set {A} Q l i w own others j a e = ⊎_elim
     (λ (t : (j ≡ i) × (w ≡ a)). subst (λ (x : ℕ × A). Q x.0 x.1) (λ k. (sym t.0 k, t.1 k)) own)
@@ -116,7 +116,7 @@ length_map f (x ∷ xs) = ap suc (length_map f xs)
 abbrev pub numbered : {E : Type 0} → PassKnowledge E → ℕ
 numbered k = k.number
 
--- the last one goes to the front
+-- the last element moves to the front
 pub last_first : {A : Type 0} (xs : List A) (x : A) (n : ℕ) → n ≡ length xs → drop n (xs ++ x ∷ []) ++ take n (xs ++ x ∷ []) ≡ x ∷ xs
 last_first xs x n is = rw (is, drop-append_seam xs (x ∷ []), take-append_seam xs (x ∷ [])) refl
 
@@ -128,7 +128,7 @@ pub length_more : {A : Type 0} (xs : List A) (x : A) → length (xs ++ x ∷ [])
 length_more [] x = refl
 length_more (y ∷ ys) x = ap suc (length_more ys x)
 
--- one entry more of the pass's own
+-- one more entry of the pass's own
 pub legal_more : {E : Type 0} (start : List (ℕ × E)) (k j : PassKnowledge E) (e : ℕ × E) → e.0 ≡ k.number → j.number ≡ k.number → j.seen ≡ k.seen ++ e ∷ [] → j.mine ≡ k.mine ++ e ∷ [] → IsLegalFor start k → IsLegalFor start j
 legal_more start k j e its same seen mine h = record {
   tail = h.tail ++ e ∷ [];
@@ -136,6 +136,6 @@ legal_more start k j e its same seen mine h = record {
   mine_is = ap (λ n. by n (h.tail ++ e ∷ [])) same ∙ (by_more k.number h.tail e its ∙ (ap (λ l. l ++ e ∷ []) h.mine_is ∙ sym mine));
 }
 
--- what begins so still does with one entry more
+-- a list with one more entry still begins the same way
 pub starts_more : {X : Type 0} (old seen new : List X) (e : X) → StartsWith seen old → new ≡ seen ++ e ∷ [] → StartsWith new old
 starts_more old seen new e begins is = (begins.0 ++ e ∷ [], is ∙ (ap (λ l. l ++ e ∷ []) begins.1 ∙ append_assoc old begins.0 (e ∷ [])))

@@ -1,4 +1,4 @@
--- The passes of a new lock, and of one that is closed.
+-- The passes of a new lock, and those of one that is closed. For `make` and `close`.
 use Rattle.std.proofs.Common.{◌≡◌, ◌∙◌, ◌<◌, ◌≤◌, ◌⊎◌, ℕ, List, [], ◌∷◌, ◌++◌, length, map, Option, Some, refl, sym, ap, subst, arith, inl, inr, ⊎_elim, zero, suc}
 use mathlib.Core.Logic.{dite}
 use native.Mathlib.Decide.{ℕ_discrete}
@@ -12,7 +12,7 @@ use Rattle.turn_lock.specs.Passes.{AreAllOf, IsPassIdle, PassStanding, PassStand
 use Rattle.turn_lock.specs.Turns.{AllOf, FirstMade, IsSeatIdle, Knows, each_new, known, made_of, newcomer, newcomers}
 use Rattle.turn_lock.proofs.Lists.{all_more, length_map, length_more, map_more, numbered}
 
--- a fact about what a function gives of each element
+-- a fact about the image of each element
 pub all_to : {X Y : Type 0} (f : X → Y) (Q : Y → Type 0) (xs : List X) → AllOf (λ x. Q (f x)) xs → AllOf Q (map f xs)
 all_to f Q [] h = tt
 all_to f Q (x ∷ xs) h = (h.0, all_to f Q xs h.1)
@@ -40,7 +40,7 @@ knows_last p (x ∷ xs) = inr (knows_last p xs)
 below_last : (p n : ℕ) → p < suc n → (suc p ≤ n) ⊎ (p ≡ n)
 below_last p n below = dite (ℕ_discrete p n) (λ e. inr e) (λ ne. inl (omega arith))
 
--- the new passes are those below n
+-- the new passes are those with numbers below n
 knows_new : {E : Type 0} (start : List (ℕ × E)) (n p : ℕ) → p < n → Knows p (map numbered (each_new start n))
 knows_new start zero p below = absurd (omega arith)
 knows_new start (suc n) p below = subst (Knows p) (sym (map_more numbered (each_new start n) (known n start [])))

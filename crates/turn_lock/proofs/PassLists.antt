@@ -1,4 +1,4 @@
--- Lists of passes of one lock, of which one or all took turns.
+-- Lists of the passes of one lock, after one or all of them took turns. For callers of the lock.
 use Rattle.std.proofs.Common.{◌≡◌, ◌∙◌, ◌<◌, ℕ, zero, suc, List, [], ◌∷◌, length, map, get_or, slice_set, refl, sym, ap, subst, arith}
 use Rattle.turn_lock.specs.declared.chronicle.Chronicle.{Ghosts}
 use Rattle.turn_lock.specs.declared.lock.Pass.{Pass}
@@ -18,7 +18,7 @@ all_set P [] (suc i) y h k = tt
 all_set P (x ∷ xs) zero y h k = (k, h.1)
 all_set P (x ∷ xs) (suc i) y h k = (h.0, all_set P xs i y h.1 k)
 
--- what is so at each place of two lists of one length
+-- a fact that holds at each place of a list holds of each element
 pub all_each : {X : Type 0} (P : X → Type 0) (xs ys : List X) → length ys ≡ length xs → ((i : ℕ) (d : X) → i < length xs → P (get_or ys i d)) → AllOf P ys
 all_each P xs [] len each = tt
 all_each P [] (y ∷ ys) len each = absurd (omega arith)

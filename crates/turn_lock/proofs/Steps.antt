@@ -1,4 +1,4 @@
--- Each step keeps the rule.
+-- Each step on the words keeps the rule. For `turns`.
 use Rattle.std.proofs.Common.{◌≡◌, ◌≢◌, ◌∙◌, ℕ, ◌+◌, ◌%◌, ◌^◌, ◌<◌, ◌≤◌, List, [], ◌∷◌, ◌++◌, length, get_or, set, true, false, Option, Some, None, refl, sym, ap, subst, arith, inl, inr, ⊎_elim, length-set, append_assoc, length-append}
 use mathlib.Core.Logic.{dite}
 use mathlib.Core.Option.{none, some, some-injective}
@@ -28,7 +28,7 @@ module _ {T B E : Type 0} (base_of : T → B) (entries : T → List (ℕ × E)) 
   abbrev Rule : State (Option T) V → Type 0
   Rule = RuleKept base start base_of entries
 
-  -- one view at most has the turn
+  -- at most one view has the turn
   alone : (s : State (Option T) V) (r : Rule s) (i j : ℕ) (v w : V) → get_elem? s.views i ≡ some v → v.turn ≡ true → get_elem? s.views j ≡ some w → w.turn ≡ true → i ≡ j
   alone s r i j v w a p b q =
       let f = turning r.at i v (r.fits i v a) p in
@@ -180,7 +180,7 @@ module _ {T B E : Type 0} (base_of : T → B) (entries : T → List (ℕ × E)) 
         ),
       ))
 
-  -- what is known of a pass stays so where another's entry is added
+  -- knowledge of a pass stays right when another pass adds an entry
   longer : (made : ℕ) (tail : List (ℕ × E)) (holder : ℕ → ℕ) (seat : ℕ) (k : PassKnowledge E) (e : ℕ × E) → e.0 ≢ k.number → FitsKnown base start made tail holder seat k → FitsKnown base start made (tail ++ e ∷ []) holder seat k
   longer made tail holder seat k e ne f = record {
     prefix = (f.prefix.0 ++ e ∷ [], sym (append_assoc start tail (e ∷ [])) ∙ (ap (λ l. l ++ e ∷ []) f.prefix.1 ∙ append_assoc k.seen f.prefix.0 (e ∷ [])));

@@ -1,4 +1,4 @@
--- The views of a table: which are passes', and who waits or has the turn.
+-- The views of a table: which belong to passes, and which of them wait or have the turn.
 use Rattle.std.proofs.Common.{◌≡◌, ◌≢◌, ◌∙◌, ◌⊎◌, ℕ, ◌==◌, List, [], ◌∷◌, set, true, false, Some, None, refl, sym, ap, subst, inl, inr, zero, suc, eq-eqb, ne_eqb}
 use Rattle.std.specs.Prelude.{if◌then◌else◌}
 use mathlib.Core.Logic.{dite}
@@ -11,7 +11,7 @@ use Rattle.turn_lock.specs.declared.chronicle.View.{View}
 use Rattle.turn_lock.specs.Turns.{HasTicket, Live, Moment, nobody}
 use Rattle.turn_lock.proofs.Lists.{inside, none_is}
 
--- a function changed at one place
+-- a function with one value changed
 abbrev pub put_at : ℕ → ℕ → (ℕ → ℕ) → ℕ → ℕ
 put_at n seat f t = if t == n then seat else f t
 
@@ -30,7 +30,7 @@ module _ {B E : Type 0} {base : B} {start : List (ℕ × E)} where
   abbrev pub Fit : Moment base start → ℕ → View B E → Type 0
   Fit m seat v = (v ≡ nobody) ⊎ Live base start m seat v
 
-  -- a view with a base is a pass's, and so is one that has the turn or a ticket
+  -- a view with a base belongs to a pass, and so does one that has the turn or a ticket
   pub living : (m : Moment base start) (seat : ℕ) (v : View B E) → Fit m seat v → (b : B) → v.base ≡ Some b → Live base start m seat v
   living m seat v (inl e) b is = absurd (none_is (ap (λ (x : View B E). x.base) (sym e) ∙ is))
   living m seat v (inr l) b is = l
@@ -45,12 +45,12 @@ module _ {B E : Type 0} (views : List (View B E)) where
   apart id v w here out at there has e = let same : some w ≡ some v = sym there ∙ ap (get_elem? views) e ∙ here in
       false≢true (sym out ∙ (ap (λ (x : View B E). x.turn) (sym (some-injective w v same)) ∙ has))
 
-  -- and so is one that has a ticket
+  -- a view with a ticket is at another place than one without
   pub elsewhere : (id : ℕ) (v w : View B E) → get_elem? views id ≡ some v → v.ticket ≡ None → (at t : ℕ) → get_elem? views at ≡ some w → w.ticket ≡ Some t → at ≢ id
   elsewhere id v w here out at t there has e = let same : some w ≡ some v = sym there ∙ ap (get_elem? views) e ∙ here in
       none_is (sym out ∙ (ap (λ (x : View B E). x.ticket) (sym (some-injective w v same)) ∙ has))
 
-  -- a ticket stays where another view changes, and where this view changes and keeps its ticket
+  -- a ticket stays if another view changes, or if its own view changes and keeps the ticket
   pub still_else : (id : ℕ) (w : View B E) (at t : ℕ) → at ≢ id → HasTicket views at t → HasTicket (set views id w) at t
   still_else id w at t ne h = (h.0, set_else views id at w ne ∙ h.1, h.2)
 

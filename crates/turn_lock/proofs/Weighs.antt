@@ -1,4 +1,4 @@
--- The entries of a closed lock's history, weighed: each is one pass's own, once.
+-- The entries of a closed lock's history, weighed: each belongs to one pass, once. For `close`.
 use Rattle.std.proofs.Common.{◌≡◌, ◌≢◌, ◌∙◌, ◌<◌, ◌≤◌, ◌+◌, ◌==◌, ℕ, zero, suc, List, [], ◌∷◌, length, map, refl, sym, ap, subst, arith, inl, inr, ⊎_elim, eq-eqb, ne_eqb}
 use Rattle.std.specs.Prelude.{if◌then◌else◌}
 use Rattle.std.proofs.lemmas.Bool.{cases_Bool}
@@ -8,7 +8,7 @@ use Rattle.turn_lock.specs.declared.chronicle.PassKnowledge.{PassKnowledge}
 use Rattle.turn_lock.specs.Turns.{AllOf, IsKnownAs, Knows, by, weigh}
 use Rattle.turn_lock.proofs.Lists.{length_map, numbered}
 
--- what a function gives of each number below n, added up
+-- the sum of a function over the numbers below n
 abbrev sum_below : ℕ → (ℕ → ℕ) → ℕ
 sum_below zero f = 0
 sum_below (suc n) f = sum_below n f + f n
@@ -25,7 +25,7 @@ below_add : (n : ℕ) (f g : ℕ → ℕ) → sum_below n (λ p. f p + g p) ≡ 
 below_add zero f g = refl
 below_add (suc n) f g = let rest = below_add n f g in omega arith
 
--- a weight at one number, and nothing at the others
+-- a weight at one number, and 0 at the others
 abbrev one_at : ℕ → ℕ → ℕ → ℕ
 one_at m w p = if m == p then w else 0
 
@@ -52,7 +52,7 @@ module _ {E : Type 0} (weight : ℕ × E → ℕ) where
     | inr f ↦ rw f (omega arith)
   ]
 
-  -- entries whose numbers are below n, number by number
+  -- the weight of entries whose numbers are below n, summed number by number
   by_parts : (n : ℕ) (es : List (ℕ × E)) → AllOf (λ e. e.0 < n) es → weigh weight es ≡ sum_below n (λ p. weigh weight (by p es))
   by_parts n [] h = sym (below_zero n)
   by_parts n (e ∷ es) h =
@@ -61,7 +61,7 @@ module _ {E : Type 0} (weight : ℕ × E → ℕ) where
       let split = below_same n (λ p. weigh weight (by p (e ∷ es))) (λ p. one_at e.0 (weight e) p + parts p) (λ p. by_one p e es) ∙ below_add n (one_at e.0 (weight e)) parts in
       ap (λ k. weight e + k) (by_parts n es h.1) ∙ (ap (λ k. k + sum_below n parts) (sym one) ∙ sym split)
 
--- the list without the first p
+-- the list without the first occurrence of p
 abbrev without_one : ℕ → List ℕ → List ℕ
 without_one p [] = []
 without_one p (x ∷ xs) = if x == p then xs else x ∷ without_one p xs
@@ -87,7 +87,7 @@ others_stay p q (x ∷ xs) ne h = dite (ℕ_discrete x p)
     (λ is. rw (eq-eqb x p is) (others_know p q x xs (λ e. ne (sym e ∙ is)) h))
     (λ other. rw (ne_eqb x p other) (⊎_elim inl (λ r. inr (others_stay p q xs ne r)) h))
 
--- n numbers that are all those below n
+-- a list of n numbers that contains every number below n
 each_once : (f : ℕ → ℕ) (n : ℕ) (ns : List ℕ) → length ns ≡ n → ((p : ℕ) → p < n → Knows p ns) → weigh f ns ≡ sum_below n f
 each_once f zero [] len all = refl
 each_once f zero (x ∷ xs) len all = absurd (omega arith)
@@ -103,7 +103,7 @@ module _ {E : Type 0} (weight : ℕ × E → ℕ) (start tail : List (ℕ × E))
   own_weighs [] h = refl
   own_weighs (k ∷ ks) h = ap (λ w. w + weigh (λ p. weigh weight (by p tail)) (map numbered ks)) (ap (weigh weight) h.0.mine) ∙ ap (λ w. weigh weight k.mine + w) (own_weighs ks h.1)
 
-  -- n passes whose numbers are all those below n have the whole tail between them
+  -- n passes whose numbers are all those below n have made all entries after the start
   pub weighs_once : (n : ℕ) (ks : List (PassKnowledge E)) → length ks ≡ n → ((p : ℕ) → p < n → Knows p (map numbered ks)) → AllOf (λ e. e.0 < n) tail → AllOf (IsKnownAs start tail) ks → weigh weight tail ≡ weigh (λ k. weigh weight k.mine) ks
   weighs_once n ks many all authors known =
       by_parts weight n tail authors ∙ (sym (each_once (λ p. weigh weight (by p tail)) n (map numbered ks) (length_map numbered ks ∙ many) all) ∙ own_weighs ks known)

@@ -1,11 +1,11 @@
--- A list of numbers, as its lock sees it.
+-- A list of numbers as the value of a lock.
 use Rattle.std.specs.Prelude.{ℕ, List}
 use Rattle.turn_lock.specs.declared.number_list.NumberList.{NumberList}
 
--- what never changes of it
+-- The title of a list, which never changes.
 abbrev pub title_of : NumberList → ℕ
 title_of list = list.title
 
--- its history
+-- The history of a list: its numbers, each with its pass.
 abbrev pub history_in : NumberList → List (ℕ × ℕ)
 history_in list = list.numbers.items

@@ -1,12 +1,12 @@
-//! What a lock asks of its value, and what the proofs know of a pass. All of it but `count` exists in proofs alone.
+//! What a lock requires of its value, and what the proofs know of a pass. Everything except `count` exists in proofs only.
 
 ghost use Rattle.std.specs.Prelude.{ℕ, List, length, ◌≡◌};
 
 use std::collections::LinkedList;
 
-/// A value that stands for a history, each entry with the number of the pass that made it.
+/// A value with a history: a list of entries, each with the number of the pass that made it.
 pub trait Chronicle {
-    /// What never changes of the value, as contracts see it.
+    /// The part of the value that never changes, as contracts see it.
     type Base;
 
     /// An entry of the history, as contracts see it.
@@ -16,27 +16,32 @@ pub trait Chronicle {
 
     ghost entries: { Self → List (ℕ × Self.Entry) };
 
-    /// How many entries the history has.
+    /// Returns the number of entries in the history.
     fn count(&self) -> u64
         ensures { result ≡ length (entries self.now) };
 }
 
-/// What is known of one pass: its number, the history that it has seen, and its own entries in it.
+/// What is known of one pass: its number, the history that it has seen, and its own entries in the history.
 pub struct PassKnowledge<E> {
     pub number: u64,
     pub seen: LinkedList<(u64, E)>,
     pub mine: LinkedList<(u64, E)>,
 }
 
-/// The view of a pass: the ticket that it waits or has the turn with, and whether it has the turn; how many passes were made, where it
-/// is the one that counts them; the lock's base and first history; what is known of it, and of the passes that were joined into it. No
-/// value of it is made.
+/// The view of a pass, for proofs only; no value of this type is made at run time.
 pub struct View<B, E> {
+    /// The ticket with which the pass waits or has the turn.
     pub ticket: Option<u64>,
+    /// Whether the pass has the turn.
     pub turn: bool,
+    /// How many passes were made, for the pass that counts them.
     pub made: Option<u64>,
+    /// The lock's base.
     pub base: Option<B>,
+    /// The lock's first history.
     pub start: LinkedList<(u64, E)>,
+    /// What is known of the pass.
     pub own: PassKnowledge<E>,
+    /// What is known of the passes that were joined into it.
     pub joined: LinkedList<PassKnowledge<E>>,
 }

@@ -1,4 +1,4 @@
-//! How a lock ends: all its passes are joined into one, which then knows that nobody has the turn.
+//! How a lock ends: all its passes are joined into one, which then knows that no pass has the turn.
 
 ghost use Rattle.std.specs.Prelude.{◌≡◌, ◌<◌, ◌∷◌, [], IsSome, length, map, unwrap_or, ℕ};
 ghost use Rattle.turn_lock.specs.Passes.{AreAllOf, IsPassIdle, IsPassOf, known_of, made_over, standing};
@@ -9,10 +9,11 @@ use crate::lock::{Pass, TurnLock};
 use crate::rule::Both;
 
 impl<T: Chronicle> TurnLock<T> {
-    /// Ends the lock, with all its passes, and gives the value. Its history begins with what each pass has seen, and consists of the
-    /// first history and each pass's own entries, each once. It doesn't wait.
+    /// Ends the lock with all its passes, and returns the value. Does not wait.
     ///
-    /// Every pass must be there, idle, and the first one in front, as `make` gave them; the others may stand in any order.
+    /// The value's history begins with the first history, and then has the entries of each pass, each entry once. Each pass has
+    /// seen a beginning of this history. All passes must be given, idle. The first pass that `make` returned must be in front; the
+    /// others may come in any order.
     pub fn close(self, passes: Vec<Pass<T>>) -> T
         requires all { AreAllOf T.base T.entries self (map standing passes.items) }
         requires idle { AllOf IsPassIdle passes.items }
@@ -29,7 +30,7 @@ impl<T: Chronicle> TurnLock<T> {
         self.close_by(one)
     }
 
-    // Joins the other pass into this one, which then knows both.
+    // Joins the other pass into this one, which then knows what both knew.
     fn absorb(&self, pass: &mut Pass<T>, other: Pass<T>)
         requires own { IsPassOf T.base T.entries self.now pass.old × IsPassOf T.base T.entries self.now other }
         requires idle { IsPassIdle pass.old × IsPassIdle other }
@@ -44,7 +45,7 @@ impl<T: Chronicle> TurnLock<T> {
         self.table.shared.join_seat::<Both>(&mut pass.seat, seat);
     }
 
-    // The value, once all passes were joined into this one.
+    // Returns the value once all passes were joined into this one.
     fn close_by(self, pass: Pass<T>) -> T
         requires own { IsPassOf T.base T.entries self pass }
         requires idle { IsPassIdle pass }

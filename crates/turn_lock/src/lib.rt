@@ -1,6 +1,13 @@
-//! A lock that serves in the order of tickets, and whose count word is the length of the history that its value stands for. It stands
-//! on `atomic_table` alone: `rule` says what always holds of the table, `lock` has the types, and `make`, `turns` and `close` are what
-//! a caller does, in this order. `number_list` is the plainest use.
+//! A ticket lock (Mellor-Crummey and Scott 1991): passes are served in the order in which they drew their tickets. One word of the
+//! lock counts the entries in the history of its value. The crate calls `atomic_table` only.
+//!
+//! The modules in reading order:
+//!
+//! - `chronicle`: what a lock requires of its value.
+//! - `rule`: what always holds of the words, the slot and the views of the passes.
+//! - `lock`: the types of the lock, its passes and its turns.
+//! - `make`, `turns`, `close`: what a caller does, in this order.
+//! - `number_list`: the simplest use of the lock.
 #![tactic(auto)]
 
 pub mod chronicle;

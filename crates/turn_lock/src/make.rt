@@ -11,7 +11,7 @@ use atomic_table::{Refused, Table};
 use std::alloc::{AllocError as NoMemory, Global};
 use std::snapshot::Snapshot;
 
-// The value that comes back from a table that was not made.
+// Returns the value from the slots of a table that could not be made.
 fn returned<T>(mut slots: Vec<Option<T>>, value: &Snapshot<T>) -> T
     requires { slots.items ≡ Some value.now.value ∷ [] }
     ensures { result ≡ value.now.value }
@@ -26,11 +26,15 @@ fn returned<T>(mut slots: Vec<Option<T>>, value: &Snapshot<T>) -> T
 }
 
 impl<T: Chronicle> TurnLock<T> {
-    /// A lock over the value, and `n` passes, of which pass `i` of the list has the number `i`. Each has seen the value's history, and
-    /// has no entry of its own. The only error is want of memory, and the value comes back.
+    /// Returns a lock over the value, and `n` passes; pass `i` of the list has the number `i`. Each pass has seen the value's
+    /// history and has no entry of its own.
     ///
-    /// From here to `close` no `?` may stand: the lock can't be dropped, and `close` asks for every pass. So take what memory is needed
-    /// before, or keep an error in a variable until the lock is closed.
+    /// Between here and `close` the caller must not use `?`: the lock cannot be dropped, and `close` requires every pass. Allocate
+    /// before this call, or keep an error in a variable until the lock is closed.
+    ///
+    /// # Errors
+    ///
+    /// Fails only if memory runs out; then the value comes back.
     pub fn make(
         alloc: Global,
         value: T,
@@ -60,7 +64,7 @@ impl<T: Chronicle> TurnLock<T> {
         Ok((lock, passes))
     }
 
-    // A lock over the value, and its first pass.
+    // Returns a lock over the value, and its first pass.
     fn open(alloc: Global, value: T) -> Result<(TurnLock<T>, Pass<T>), (NoMemory, T)>
         ensures own { IfOk result (λ r. r.1.seat.table_id ≡ r.0.table.shared.table_id) }
         ensures key { IfOk result (λ r. made_over r.0 ≡ value) }
@@ -87,7 +91,7 @@ impl<T: Chronicle> TurnLock<T> {
         }
     }
 
-    // A new pass, of the next number. The first pass counts those that were made.
+    // Returns a new pass with the next number. The first pass, `pass`, counts the passes that were made.
     fn another(&self, pass: &mut Pass<T>, number: u32) -> Pass<T>
         requires own { IsPassOf T.base T.entries self.now pass.old }
         requires idle { IsPassIdle pass.old }

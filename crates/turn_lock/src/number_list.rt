@@ -1,4 +1,5 @@
-//! The plainest use of the lock: a titled list of numbers, to which passes add. `append` is one whole turn, as a caller writes it.
+//! The simplest use of the lock: a titled list of numbers that passes append to. `append` is one complete turn, as a caller writes
+//! it.
 
 ghost use Rattle.std.specs.Prelude.{◌≡◌, ◌++◌, ◌∷◌, [], MatchBool, Some, ⊤};
 ghost use Rattle.turn_lock.specs.NumberLists.{history_in, title_of};
@@ -9,7 +10,7 @@ use crate::chronicle::Chronicle;
 use crate::lock::{Pass, TurnLock};
 use std::sync::Wait;
 
-/// Numbers under a title, each with the pass that added it.
+/// Numbers under a title, each with the number of the pass that added it.
 #[derive(Drop)]
 pub struct NumberList {
     pub title: u32,
@@ -30,8 +31,10 @@ impl Chronicle for NumberList {
     }
 }
 
-/// Adds a number in a turn of its own, and says whether there was memory for it; where there was none the pass adds nothing. What the
-/// pass has seen then ends with its number, or else is what was there at its turn. It waits for the turn.
+/// Appends a number in a turn of its own, and returns whether there was memory for it. Waits for the turn.
+///
+/// With memory, what the pass has seen now ends with its number. Without memory the pass adds nothing, and has seen the history as
+/// it was at its turn.
 pub fn append<R: Wait>(
     rt: &R,
     lock: &TurnLock<NumberList>,

@@ -1,4 +1,4 @@
-//! The rule of the lock, and what each step on its words tells the pass that takes it. The meanings stand in `specs/Turns.antt`. No
+//! The rule of the lock, and what a pass learns from each step on the lock's words. `specs/Turns.antt` defines their meaning. No
 //! value of these types is made; `make`, `turns` and `close` name them at their steps.
 
 ghost use Rattle.std.specs.Prelude.{ℕ, Option, None};
@@ -9,7 +9,7 @@ use atomic_table::{Join, Play, Split, TableRule};
 use std::marker::{Brand, PhantomData};
 use std::snapshot::Snapshot;
 
-/// The rule: what holds of the words, the slot and all views, whenever nobody is in the middle of a step.
+/// The rule: what holds of the words, the slot and all views between two steps.
 pub struct InTurn<T> {
     marker: PhantomData<T>,
 }
@@ -20,14 +20,14 @@ impl<T: Chronicle> TableRule<Option<T>, View<T::Base, T::Entry>, Snapshot<T>> fo
     ghost first = { λ key. founder (T.base key.value) (T.entries key.value) };
 }
 
-/// A ticket is drawn.
+/// The step that draws a ticket.
 pub struct Draw;
 
 impl<T: Chronicle> Play<Option<T>, View<T::Base, T::Entry>> for Draw {
     ghost then = { drawn T.base T.entries };
 }
 
-/// The ticket that is served is looked at; where it is the pass's own, the pass has the turn.
+/// The step that reads the ticket that is served. If the ticket is the pass's own, the pass has the turn.
 pub struct TicketLook;
 
 impl<T: Chronicle> Play<Option<T>, View<T::Base, T::Entry>> for TicketLook {
@@ -43,7 +43,7 @@ impl<E> AddsEntry<E> for Brand {
     ghost said = { None };
 }
 
-/// The history is counted one longer, by the entry that `W` says.
+/// The step that counts one more entry of the history, the one that `W` names.
 pub struct Count<W> {
     marker: PhantomData<W>,
 }
@@ -52,14 +52,14 @@ impl<T: Chronicle, W: AddsEntry<T::Entry>> Play<Option<T>, View<T::Base, T::Entr
     ghost then = { counted T.base T.entries W.said };
 }
 
-/// The turn is given to the next ticket.
+/// The step that gives the turn to the next ticket.
 pub struct Leave;
 
 impl<T: Chronicle> Play<Option<T>, View<T::Base, T::Entry>> for Leave {
     ghost then = { left T.base T.entries };
 }
 
-/// A pass is made.
+/// The step that makes a pass.
 pub struct Part;
 
 impl<B, E> Split<View<B, E>> for Part {
@@ -68,7 +68,7 @@ impl<B, E> Split<View<B, E>> for Part {
     ghost right = { copy_of };
 }
 
-/// Two passes become one.
+/// The step that joins two passes into one.
 pub struct Both;
 
 impl<B, E> Join<View<B, E>> for Both {

@@ -1,5 +1,5 @@
-//! What a pass does between `make` and `close`, as often as it likes: it waits for its turn (`enter`), counts what it does to the value
-//! in hand (`commit`, any number of times), and gives the value back (`leave`).
+//! What a pass does between `make` and `close`, as often as it likes. It waits for its turn (`enter`) and counts each entry that it
+//! adds to the value (`commit`, any number of times). Then it gives the value back (`leave`).
 
 ghost use Rattle.std.specs.Prelude.{◌≡◌, ◌+◌, ◌<◌, ◌^◌, ◌++◌, ◌∷◌, [], Some, length, ℕ};
 ghost use Rattle.turn_lock.specs.Passes.{HasTurn, IsLegal, IsPassIdle, IsPassOf, known_of, made_over, mine_of, pass_number, seen_of, standing};
@@ -13,7 +13,7 @@ use std::sync::Wait;
 use std::thread;
 
 impl<T: Chronicle> Pass<T> {
-    /// The number of the pass: its place, from 0, in the list that `make` gave. Its entries have this number.
+    /// Returns the number of the pass: its place, from 0, in the list that `make` returned. Its entries have this number.
     pub fn number(&self) -> u32
         ensures { result ≡ pass_number self.now }
     {
@@ -22,11 +22,11 @@ impl<T: Chronicle> Pass<T> {
 }
 
 impl<T: Chronicle> TurnLock<T> {
-    /// Draws a ticket and waits until it is served; then the value is in hand. It stands for the whole history that was counted, which
-    /// begins with all that the pass had seen; the pass's own entries are what they were.
+    /// Draws a ticket, waits until the ticket is served, and returns the value. The value has the complete history that was
+    /// counted, which begins with all that the pass had seen. The pass's own entries are unchanged.
     ///
-    /// The pass must be idle: one that has the turn would wait for itself. No contract says that the turn comes: it doesn't where another
-    /// pass never leaves, nor where two threads each wait for the other's turn at another lock.
+    /// The pass must be idle: one that has the turn would wait for itself. No contract says that the turn comes. It does not come
+    /// if another pass never leaves, or if two threads each wait for the other's turn at another lock.
     pub fn enter<R: Wait>(&self, rt: &R, pass: &mut Pass<T>) -> Turn<T>
         requires own { IsPassOf T.base T.entries self.now pass.old }
         requires idle { IsPassIdle pass.old }
@@ -52,7 +52,7 @@ impl<T: Chronicle> TurnLock<T> {
         unreachable!()
     }
 
-    // Counts one entry more, the one that `W` says. `W` is picked by `commit` in its proof: no value of it is passed.
+    // Counts one more entry, the one that `W` names. `commit` chooses `W` in its proof; no value of `W` is passed.
     fn count_up<W: AddsEntry<T::Entry>>(&self, pass: &mut Pass<T>, turn: &Turn<T>)
         requires own { IsPassOf T.base T.entries self.now pass.old }
         requires turn { HasTurn pass.old }
@@ -70,11 +70,10 @@ impl<T: Chronicle> TurnLock<T> {
             .fetch_add::<Count<W>>(&mut pass.seat, 2, 1);
     }
 
-    /// The event: the history is one entry longer, by this pass's. Nothing else adds to it.
+    /// Counts one more entry of the history, made by this pass. This is the only call that lengthens the history.
     ///
-    /// The value in hand stands for that longer history already. So it is asked once for each entry, after the entry was added to the
-    /// value and before the next: the turn is left with neither more nor fewer entries than were counted.
-    /// The value must be of the lock's base, and have fewer than 2^64 entries in all, as the word counts them.
+    /// The value must already have the longer history. So call `commit` once for each entry, after adding that entry to the value
+    /// and before adding the next. The value must keep the lock's base, and have fewer than 2^64 entries.
     pub fn commit(&self, pass: &mut Pass<T>, turn: &mut Turn<T>)
         requires own { IsPassOf T.base T.entries self.now pass.old }
         requires turn { HasTurn pass.old }
@@ -92,11 +91,11 @@ impl<T: Chronicle> TurnLock<T> {
         self.count_up::<Brand>(pass, turn);
     }
 
-    /// Puts the value back, and gives the turn to the next ticket. The pass is idle again, and may go to another thread.
+    /// Puts the value back, and gives the turn to the next ticket. The pass is idle again and may move to another thread.
     ///
-    /// The value must be of the lock's base and stand for just what was counted: neither one entry longer nor an older one, since
-    /// the next pass is told that it does. Every `enter` is followed by this, so that no `?` may stand between the two: a turn can't be
-    /// dropped, and where it is taken apart its pass has the turn for good, which `close` doesn't take.
+    /// The value must keep the lock's base and have exactly the entries that were counted, because the next pass relies on that.
+    /// Every `enter` must be followed by this call, with no `?` between the two. A turn cannot be dropped, and a pass whose turn
+    /// was taken apart keeps the turn for good, so `close` never accepts it.
     pub fn leave(&self, pass: &mut Pass<T>, turn: Turn<T>)
         requires own { IsPassOf T.base T.entries self.now pass.old }
         requires turn { HasTurn pass.old }

@@ -28,7 +28,7 @@ use Rattle.walk_repack.specs.Steps.{map_stations}
 
 -- ---- the start map
 
--- a channel of the last map is of the station's domain
+-- A channel of the last map is in the station's domain.
 last-on : (book : BookView) (set : List ℕ) (last : List (ℕ × ℕ)) (s c : ℕ) → is_on_domains book set last ≡ true → channel_of s last ≡ Some c → is_in (domain_of book s) c ≡ true
 last-on book set [] s c d e = cc
 last-on book set (x ∷ xs) s c d e =
@@ -59,7 +59,7 @@ start-on book set last (s ∷ ss) d h =
     let c = unwrap_or (channel_of s last) (least_of (domain_of book s)) in
     and_from (is_in (domain_of book s) c) (list_all (λ (x : ℕ × ℕ). is_in (domain_of book x.0) x.1) (start_map book last ss)) (started-on book set last s d parts.0) (start-on book set last ss d parts.1)
 
--- each station of a query's start map is on its domain
+-- Each station of a query's start map is on a channel of its domain.
 pub query-starts : (book : BookView) (task : Task) → IsQuery book task → AreOnDomains book (start_map book task.last task.set)
 query-starts book task q = let parts = query-parts book task q in start-on book task.set task.last task.set parts.domains parts.channels
 
@@ -67,7 +67,7 @@ pub start-stations : (book : BookView) (last : List (ℕ × ℕ)) (set : List �
 start-stations book last [] = refl
 start-stations book last (s ∷ ss) = ap (λ rest. s ∷ rest) (start-stations book last ss)
 
--- ---- the stations of a walk from the start map are the set
+-- The stations of a walk from the start map are the set.
 pub course-stations : (book : BookView) (task : Task) (v : WalkCourseView) → IsWalkCourse v → v.start ≡ start_map book task.last task.set → map_stations v.entries ≡ task.set
 course-stations book task v h e = h.stations ∙ ap map_stations e ∙ start-stations book task.last task.set
 

@@ -1,4 +1,4 @@
--- What one move more leaves of a walk.
+-- One more move of a walk: what holds of a walk holds after it.
 use Rattle.std.proofs.Common.{◌≡◌, ℕ, true, false, ◌&&◌, List, [], ◌∷◌, ◌++◌, refl, sym, ap, subst, ◌∙◌, inl, inr}
 use Rattle.std.specs.List.{list_all}
 use Rattle.std.proofs.lemmas.Bool.{and_from, and_parts, cases_order}
@@ -14,7 +14,7 @@ use Rattle.cert_types.specs.Walks.{AreSpentMoves, IsSpentMove, is_in_trouble, vi
 use Rattle.cert_types.proofs.WalkLemmas.{troubled-there}
 use Rattle.walk_repack.specs.Course.{WalkCourseView, IsWalkCourse, AreOnDomains}
 
--- where a station is of a violated pair, some pair is violated
+-- If a station is of a violated pair, some pair is violated.
 pub troubled-violates : (book : BookView) (entries : List (ℕ × ℕ)) (s : ℕ) → is_in_trouble book entries s ≡ true → violates_some book entries ≡ true
 troubled-violates book entries s h =
     let found = list_any-gives (λ p. is_of s p && is_violated entries p) book.pairs h in
@@ -41,7 +41,7 @@ spent-more : (book : BookView) (start moves : List (ℕ × ℕ)) (x : ℕ × ℕ
 spent-more book start [] x a m = (m, tt)
 spent-more book start (y ∷ ys) x a m = (a.0, spent-more book (put y start) ys x a.1 m)
 
--- what a walk keeps, it keeps when it makes a move
+-- What holds of a walk holds after another move.
 pub course-more : (v : WalkCourseView) (s c : ℕ) → IsWalkCourse v → is_in_trouble v.book v.entries s ≡ true → is_in (domain_of v.book s) c ≡ true → has_entry v.entries (s, c) ≡ false → IsWalkCourse (record { book = v.book; start = v.start; moves = v.moves ++ (s, c) ∷ []; entries = put (s, c) v.entries })
 course-more v s c h troubled on other = record {
   ascending = put-ascending (s, c) v.entries h.ascending;
@@ -53,7 +53,7 @@ course-more v s c h troubled on other = record {
       (subst (λ es. IsSpentMove v.book es (s, c)) (sym h.leads) (record { troubled = troubled; on_domain = on; elsewhere = other; still = still }));
 }
 
--- the same, where the parts after it are known by equations
+-- The same, with the later parts known by equations.
 pub course-next : (v : WalkCourseView) (s c : ℕ) (moves entries : List (ℕ × ℕ)) → IsWalkCourse v → is_in_trouble v.book v.entries s ≡ true → is_in (domain_of v.book s) c ≡ true → has_entry v.entries (s, c) ≡ false → moves ≡ v.moves ++ (s, c) ∷ [] → entries ≡ put (s, c) v.entries → IsWalkCourse (record { book = v.book; start = v.start; moves = moves; entries = entries })
 course-next v s c moves entries h troubled on other f g =
     subst (λ (ms : List (ℕ × ℕ)). IsWalkCourse (record { book = v.book; start = v.start; moves = ms; entries = entries })) (sym f)

@@ -8,11 +8,11 @@ use Rattle.pack_defs.proofs.Members.{Contains-from_filter, Contains-here, Contai
 use Rattle.assign_check.specs.Fault.{is_violated}
 use Rattle.walk_repack.specs.Course.{IsViolated}
 
--- a pair of some of the book's is one of the book
+-- A pair of a part of the book's pairs is a pair of the book.
 pub kept-listed : (keep : Pair → Bool) (pairs some : List Pair) (p : Pair) → some ≡ filter keep pairs → Contains some p → Contains pairs p
 kept-listed keep pairs some p e h = (Contains-from_filter keep pairs p (subst (λ (ps : List Pair). Contains ps p) e h)).0
 
--- what a pass finds is in the list, and passes
+-- What a search finds is in the list, and passes.
 pub find-in : (t : Pair → Bool) (ps : List Pair) (q : Pair) → find t ps ≡ Some q → Contains ps q × (t q ≡ true)
 find-in t [] q e = cc
 find-in t (p ∷ ps) q e =
@@ -23,12 +23,12 @@ find-in t (p ∷ ps) q e =
       | false ↦ λ fails later. let r = find-in t ps q later in (Contains-there p q ps r.0, r.1)
     ]) refl e
 
--- the first violated pair from a station is violated
+-- The first violated pair from a station is violated.
 pub first-violated : (book : BookView) (entries : List (ℕ × ℕ)) (keep : Pair → Bool) (q : Pair) → find (is_violated entries) (filter keep book.pairs) ≡ Some q → IsViolated book entries q
 first-violated book entries keep q e =
     let r = find-in (is_violated entries) (filter keep book.pairs) q e in
     record { listed = (Contains-from_filter keep book.pairs q r.0).0; stands = r.1 }
 
--- a pair of the book is violated whose entries both stand
+-- A pair of the book is violated if the map has both entries.
 pub both-stand : (book : BookView) (entries : List (ℕ × ℕ)) (p : Pair) → Contains book.pairs p → has_entry entries (p.f, p.a) ≡ true → has_entry entries (p.g, p.b) ≡ true → IsViolated book entries p
 both-stand book entries p listed f g = record { listed = listed; stands = and_from (has_entry entries (p.f, p.a)) (has_entry entries (p.g, p.b)) f g }

@@ -1,4 +1,4 @@
--- A walk so far, and what it keeps.
+-- A walk so far, and what holds of each walk.
 use Rattle.std.specs.Prelude.{ℕ, true, false, ◌≡◌, length, List, map, IsTrue, Contains}
 use Rattle.std.specs.List.{list_all}
 use Rattle.pack_defs.specs.declared.pair.Pair.{Pair}
@@ -12,19 +12,19 @@ use Rattle.cert_types.specs.declared.task.Task.{Task}
 use Rattle.cert_types.specs.Valid.{IsValid, learns}
 use Rattle.cert_types.specs.Walks.{AreSpentMoves, start_map, violates_some}
 
--- the book of a walk, the map that it starts from, the moves since then, and the map that they lead to
+-- A walk: its book, the map from which it starts, the moves since then, and the map that they lead to.
 pub record WalkCourseView : Type 0 where
   pub book : BookView
   pub start : List (ℕ × ℕ)
   pub moves : List (ℕ × ℕ)
   pub entries : List (ℕ × ℕ)
 
--- each entry is on a channel of its station's domain
+-- Each entry is on a channel of its station's domain.
 abbrev pub AreOnDomains : BookView → List (ℕ × ℕ) → Type 0
 AreOnDomains book entries = IsTrue (list_all (λ x. is_in (domain_of book x.0) x.1) entries)
 
--- The moves lead from the start map to this one, which ascends and is of the same stations, each on its domain. Where a pair is violated still,
--- they are moves of a receipt.
+-- The moves lead from the start map to this map, which ascends and has the same stations, each on its domain. If a pair is still
+-- violated, the moves are those of a receipt.
 pub record IsWalkCourse (v : WalkCourseView) : Type 0 where
   pub ascending : IsAscending v.entries
   pub leads : overlaid v.start v.moves ≡ v.entries
@@ -32,13 +32,13 @@ pub record IsWalkCourse (v : WalkCourseView) : Type 0 where
   pub on_domains : AreOnDomains v.book v.entries
   pub spent : violates_some v.book v.entries ≡ true → AreSpentMoves v.book v.start v.moves
 
--- the pair is one of the book, with both its entries in the map
+-- The pair is in the book, and the map has both its entries.
 pub record IsViolated (book : BookView) (entries : List (ℕ × ℕ)) (p : Pair) : Type 0 where
   pub listed : Contains book.pairs p
   pub stands : is_violated entries p ≡ true
 
--- the answer is valid for each query whose walks start from the map that this one starts from, of a worker that walks and has
--- as many moves in its budget, where some pair is violated still
+-- The answer is valid for each query with the walk's start map and each walking worker whose budget is the number of moves, if some
+-- pair is still violated.
 abbrev pub IsReceiptOf : WalkCourseView → Answer → Type 0
 IsReceiptOf v answer = (task : Task) (worker : Worker) → violates_some v.book v.entries ≡ true →
     v.start ≡ start_map v.book task.last task.set → learns worker.kind ≡ false → length v.moves ≡ worker.budget →

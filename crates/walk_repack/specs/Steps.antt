@@ -1,4 +1,4 @@
--- What a walk sees where it stands, what a step of it comes to, and how it ends.
+-- What a walk finds in its map, what a step leads to, and how a walk ends.
 use Rattle.std.specs.Prelude.{ℕ, true, false, ◌≡◌, ◌≢◌, ◌<◌, ◌+◌, List, length, map}
 use Rattle.pack_defs.specs.Book.{BookView, domain_of}
 use Rattle.pack_defs.specs.Lists.{has_entry}
@@ -12,29 +12,29 @@ use Rattle.walk_repack.specs.declared.steps.WalkStep.TheVariants as step
 use Rattle.walk_repack.specs.declared.steps.WalkEnd.{WalkEnd}
 use Rattle.walk_repack.specs.declared.steps.WalkEnd.TheVariants as outcome
 
--- the stations of a map
+-- The stations of a map.
 abbrev pub map_stations : List (ℕ × ℕ) → List ℕ
 map_stations entries = map (λ x. x.0) entries
 
--- a station of a violated pair, on this channel, which has another one in its domain
+-- The station is of a violated pair, is on this channel, and has another channel in its domain.
 pub record CanMove (book : BookView) (entries : List (ℕ × ℕ)) (s own : ℕ) : Type 0 where
   pub troubled : is_in_trouble book entries s ≡ true
   pub stands : has_entry entries (s, own) ≡ true
   pub choice : 1 < length (domain_of book s)
 
--- what is seen of a map: no pair is violated; or one is whose stations can't move; or this station can
+-- What a walk finds in a map: no pair is violated, a violated pair has stations that can't move, or this station can move.
 abbrev pub SightIs : BookView → List (ℕ × ℕ) → Sight → Type 0
 SightIs book entries sight.Clean = violates_some book entries ≡ false
 SightIs book entries (sight.Dead p) = is_dead book (map_stations entries) p ≡ true
 SightIs book entries (sight.Open s own) = CanMove book entries s own
 
--- what one step leaves: no pair is violated, or one is dead, or there is one move more
+-- What one step leads to: no pair is violated, a pair is dead, or one more move is made.
 abbrev pub WalkStepIs : WalkCourseView → WalkCourseView → WalkStep → Type 0
 WalkStepIs earlier later step.Clean = (violates_some later.book later.entries ≡ false) × (later.moves ≡ earlier.moves)
 WalkStepIs earlier later (step.Dead p) = is_dead later.book (map_stations later.entries) p ≡ true
 WalkStepIs earlier later step.Made = length later.moves ≡ length earlier.moves + 1
 
--- how a walk ends that has a budget of moves and a query of this number, where the poll's latest answer is `last`
+-- How a walk ends for a query of this number, with this budget of moves; `last` is the poll's latest answer.
 abbrev pub WalkEndIs : WalkCourseView → ℕ → ℕ → ℕ → WalkEnd → Type 0
 WalkEndIs v budget number last outcome.Clean = violates_some v.book v.entries ≡ false
 WalkEndIs v budget number last (outcome.Dead p) = is_dead v.book (map_stations v.entries) p ≡ true

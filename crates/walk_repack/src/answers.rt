@@ -1,4 +1,4 @@
-//! What the end of a walk says of the query: the last step, from its map or its moves to an answer.
+//! The last step of a walk: from its map or its moves to an answer of the query.
 
 ghost use Rattle.std.specs.Prelude.{◌≡◌, IfOk, false, true};
 ghost use Rattle.pack_defs.specs.declared.worker.Worker.{Worker};
@@ -20,8 +20,11 @@ use pack_defs::items::Items;
 use pack_defs::pair::Pair;
 use std::alloc::{AllocError as NoMemory, Global};
 
-/// The fit that a walk from the query's start map ends with: the stations whose channel is another than in the last map, or
-/// that had none.
+/// Returns the fit of a walk from the query's start map that violates no pair. The fit has the stations whose channel differs from the
+/// last map, or that had none.
+///
+/// # Errors
+/// Fails only if memory runs out.
 pub(crate) fn fit(
     alloc: Global,
     book: &Book,
@@ -38,7 +41,7 @@ pub(crate) fn fit(
     Ok(Answer::Fit(delta(alloc, &task.last, &map)?))
 }
 
-/// The refutation by a dead pair that a walk from the query's start map ends with.
+/// Returns the refutation by a dead pair, for a walk from the query's start map.
 pub(crate) fn refutation(course: &WalkCourse, pair: Pair) -> Answer
     ensures { (task : Task) (worker : Worker) → is_dead course.now.book (map_stations course.now.entries) pair ≡ true →
         course.now.start ≡ start_map course.now.book task.last task.set → IsValid course.now.book task worker result }
@@ -47,7 +50,7 @@ pub(crate) fn refutation(course: &WalkCourse, pair: Pair) -> Answer
     Answer::Refuted(Refutation::Dead(pair))
 }
 
-/// The receipt of a walk from the query's start map that has as many moves as the budget.
+/// Returns the receipt of a walk from the query's start map with as many moves as the budget.
 pub(crate) fn receipt(course: WalkCourse) -> Answer
     ensures { IsReceiptOf course result }
 {

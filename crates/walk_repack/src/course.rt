@@ -1,4 +1,4 @@
-//! The moves of a walk and the map that they lead to: the exact part of its state.
+//! The moves of a walk and the map that they lead to: the verified part of a walk's state.
 
 ghost use Rattle.std.specs.Prelude.{◌≡◌, ◌++◌, ◌∷◌, [], OnErr, OnOk, false, length, true};
 ghost use Rattle.pack_defs.specs.Book.{domain_of};
@@ -13,9 +13,8 @@ use std::alloc::{AllocError as NoMemory, Global};
 use std::marker::Model;
 use std::snapshot::Snapshot;
 
-/// A walk so far: the moves from a start map, and the map that they lead to. Each move put a station of a violated pair on
-/// another channel of its domain, and left some pair violated, unless it is the last. The book and the start map stand in
-/// proofs alone.
+/// A walk so far: the moves from a start map, and the map that they lead to. Each move put a station of a violated pair on another
+/// channel of its domain, and each move except the last left some pair violated. The book and the start map exist in proofs only.
 #[derive(Drop)]
 pub(crate) struct WalkCourse {
     book: Snapshot<Book>,
@@ -35,7 +34,7 @@ impl Model for WalkCourse {
 }
 
 impl WalkCourse {
-    /// The walk that is at this map and has made no move. Each station is on a channel of its domain.
+    /// Returns the walk without moves at this map, in which each station is on a channel of its domain.
     pub(crate) fn new(alloc: Global, book: &Book, entries: Vec<(u32, u8)>) -> WalkCourse
         requires ascending { IsAscending entries.items }
         requires on_domains { AreOnDomains book.now entries.items }
@@ -49,37 +48,38 @@ impl WalkCourse {
         }
     }
 
-    /// The number of moves.
+    /// Returns the number of moves.
     pub(crate) fn len(&self) -> usize
         ensures { result ≡ length self.now.moves }
     {
         self.moves.len()
     }
 
-    /// The map, each entry a station and its channel.
+    /// Returns the map, each entry a station and its channel.
     pub(crate) fn entries(&self) -> &[(u32, u8)]
         ensures { result.now ≡ self.now.entries }
     {
         &self.entries
     }
 
-    /// Does nothing, and answers nothing: it says of each walk that its map is that of its moves, ascends, and is on its
-    /// domains.
+    /// Proves that the map of each walk is the one its moves lead to, ascends, and is on its domains; does nothing when run.
     pub(crate) fn keeps_course(&self)
         ensures { IsWalkCourse self.now }
     {
         let _entries = &self.entries;
     }
 
-    /// Whether the map has the station on this channel. It searches by halves.
+    /// Checks whether the map has the station on this channel. Costs one binary search.
     pub(crate) fn stands(&self, station: u32, channel: u8) -> bool
         ensures { result ≡ has_entry self.now.entries (station, channel) }
     {
         channel_in(&self.entries, station) == Some(channel)
     }
 
-    /// Moves a station of a violated pair to another channel of its domain. Where there is no memory for the move, all
-    /// stays as it was.
+    /// Moves a station of a violated pair to another channel of its domain.
+    ///
+    /// # Errors
+    /// Fails only if memory runs out; then nothing changes.
     pub(crate) fn make(&mut self, station: u32, channel: u8) -> Result<(), NoMemory>
         requires troubled { is_in_trouble self.old.book self.old.entries station ≡ true }
         requires on_domain { is_in (domain_of self.old.book station) channel ≡ true }
@@ -97,7 +97,7 @@ impl WalkCourse {
         Ok(())
     }
 
-    /// The map, taken out. It keeps what each walk does.
+    /// Returns the map, and with it proves what holds of each walk.
     pub(crate) fn into_entries(self) -> Vec<(u32, u8)>
         ensures entries { result.items ≡ self.entries }
         ensures course { IsWalkCourse self }
@@ -105,7 +105,7 @@ impl WalkCourse {
         self.entries
     }
 
-    /// The moves, taken out. They are those of a walk.
+    /// Returns the moves, which are those of a walk.
     pub(crate) fn into_moves(self) -> Vec<(u32, u8)>
         ensures moves { result.items ≡ self.moves }
         ensures course { IsWalkCourse self }

@@ -1,4 +1,4 @@
-//! What guides the walk: which violated pair, which of its stations, and which channel.
+//! The policy of the walk: which violated pair to pick, which of its stations to move, and to which channel.
 
 use crate::chance::Chance;
 use crate::memory::Memory;
@@ -8,8 +8,8 @@ use crate::tables::Tables;
 use pack_defs::book::Book;
 use std::alloc::{AllocError as NoMemory, Global};
 
-/// Where a walk goes next: which violated pair it looks at, which of its stations moves, and where to. Each choice is
-/// tested where it is made use of, so nothing that the walk says rests on it.
+/// The guide picks a violated pair, one of its stations, and the station's next channel. The walk checks each choice before use, so no
+/// answer depends on the guide for its correctness.
 #[derive(Drop)]
 pub(crate) struct Guide<'a> {
     tables: Tables<'a>,
@@ -18,7 +18,7 @@ pub(crate) struct Guide<'a> {
 }
 
 impl<'a> Guide<'a> {
-    /// The guide of a walk from a map, by the choices of a seed in this stream.
+    /// Returns the guide of a walk from a map, with the random choices of a seed in this stream.
     pub(crate) fn new(
         alloc: Global,
         book: &'a Book,
@@ -35,8 +35,7 @@ impl<'a> Guide<'a> {
         })
     }
 
-    /// Where the book lists a violated pair of a station that is in trouble, one of each at random; none where no station
-    /// is.
+    /// Picks a station of a violated pair and one of its violated pairs, both at random; none if no pair is violated.
     pub(crate) fn pair(&mut self) -> Option<Pick> {
         if self.tables.troubled() == 0 {
             return None;
@@ -48,13 +47,14 @@ impl<'a> Guide<'a> {
         self.tables.violated(station, channel, skip)
     }
 
-    /// One of two, at random.
+    /// Returns true or false at random.
     pub(crate) fn coin(&mut self) -> bool {
         self.chance.coin()
     }
 
-    /// The place in a station's domain of the channel to move to: of those that are not its own and not closed to it, or
-    /// of all but its own where each is closed, one on which it violates least, at random where there are several.
+    /// Returns the place in a station's domain of the channel to move to. Candidates are the channels that are neither its own nor
+    /// closed to it, or all except its own if each is closed. Among them the guide picks one with the fewest violations, at random
+    /// among several.
     pub(crate) fn channel(&mut self, domain: &[u8], station: u32, own: u8) -> usize {
         let mut best = u32::MAX;
         let mut at = 0;
@@ -78,7 +78,7 @@ impl<'a> Guide<'a> {
         at
     }
 
-    /// Notes a move, and closes the channel that the station leaves.
+    /// Records a move, and closes the channel that the station leaves.
     pub(crate) fn note(&mut self, station: u32, from: u8, to: u8) {
         self.tables.shift(station, from, to);
         let moves = self
@@ -88,7 +88,7 @@ impl<'a> Guide<'a> {
         self.memory.leave(self.tables.cell(station, from), moves);
     }
 
-    // What a station would violate on a channel, which weighs more where that is closed to it.
+    // Returns the number of pairs that a station would violate on a channel, plus a penalty if the channel is closed to the station.
     fn cost(&self, station: u32, channel: u8) -> u32 {
         let cell = self.tables.cell(station, channel);
         let count = self.tables.count(cell);

@@ -1,8 +1,17 @@
-//! A solver of packing tests that walks over channel maps: it moves one station of a violated pair at a time, until no
+//! A local search for packing tests. It walks over channel maps, and moves one station of a violated pair at a time. It ends when no
 //! pair is violated or its budget of moves is spent.
 //!
-//! It may call `assign_check`, and `cert_types` with what that stands on; no check of answers ever calls it. Read `walk` first, then
-//! `steps`, then `course` and `look`; `guide`, `tables`, `trouble`, `memory` and `chance` are policy alone.
+//! The search keeps every station on air and minimises violated pairs. A station may not return to a channel for some moves after
+//! leaving it; such tabu lists are used in PartialCol (Blöchliger and Zufferey 2008). Local search for station repacking is also used
+//! by SATFC (Newman, Fréchette, Leyton-Brown 2017).
+//!
+//! The crate may call `assign_check`, `cert_types`, and what that depends on; no check of answers ever calls it. In reading order:
+//!
+//! - `walk`: the solver as other crates see it.
+//! - `steps`: the loop of the walk.
+//! - `course`, `look`, `pick`: the verified state, and which violated pair and station come next.
+//! - `answers`: from the end of a walk to an answer.
+//! - `policy`, `guide`, `tables`, `trouble`, `places`, `memory`, `chance`: policy, which no proof depends on.
 #![tactic(auto)]
 
 mod answers;

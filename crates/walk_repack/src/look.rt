@@ -1,4 +1,4 @@
-//! What a walk sees before each move.
+//! What a walk finds before each move.
 
 ghost use Rattle.std.specs.Prelude.{◌≡◌, ◌≢◌, ◌<◌, IsTrue, length, true};
 ghost use Rattle.pack_defs.specs.Lists.{is_ascending, is_in};
@@ -11,18 +11,18 @@ use crate::pick::violated;
 use pack_defs::book::Book;
 use pack_defs::pair::Pair;
 
-/// What a walk sees of its map.
+/// What a walk finds in its map.
 #[derive(Clone, Copy, Debug)]
 pub(crate) enum Sight {
     /// No pair is violated.
     Clean,
-    /// This pair is violated, and each of its stations has one channel.
+    /// This pair is violated, and each of its stations has a domain of one channel.
     Dead(Pair),
-    /// This station is of a violated pair, on this channel, and has others.
+    /// This station of a violated pair is on this channel, and has other channels in its domain.
     Open { station: u32, channel: u8 },
 }
 
-/// Looks at a violated pair, if there is one, and at which of its stations to move.
+/// Finds a violated pair, if there is one, and picks which of its stations to move.
 pub(crate) fn look(book: &Book, course: &WalkCourse, guide: &mut Guide) -> Sight
     requires { book.now ≡ course.now.book }
     ensures { SightIs course.now.book course.now.entries result }
@@ -34,7 +34,7 @@ pub(crate) fn look(book: &Book, course: &WalkCourse, guide: &mut Guide) -> Sight
     }
 }
 
-// Which station of a violated pair to move: the first one on heads and the second on tails, where both can.
+// Picks which station of a violated pair to move: if both can move, the first on heads and the second on tails.
 fn look_at(book: &Book, course: &WalkCourse, pair: Pair, heads: bool) -> Sight
     requires book { book.now ≡ course.now.book }
     requires violated { IsViolated course.now.book course.now.entries pair }
@@ -64,7 +64,7 @@ fn look_at(book: &Book, course: &WalkCourse, pair: Pair, heads: bool) -> Sight
     Sight::Dead(pair)
 }
 
-/// Another channel of a domain of several than the station's own: the one at this place, where it is another one.
+/// Returns another channel than the station's own: the one at this place of its domain, unless that is its own.
 pub(crate) fn other_channel(domain: &[u8], own: u8, at: usize) -> u8
     requires ascending { IsTrue (is_ascending domain.now) }
     requires choice { 1 < length domain.now }

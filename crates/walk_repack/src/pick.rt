@@ -1,4 +1,4 @@
-//! A violated pair, picked by the policy and looked at before it is used.
+//! A violated pair: picked by the policy, and checked before use.
 
 ghost use Rattle.std.specs.Prelude.{◌≡◌, ◌==◌, Contains, IfNone, IfSome, false, find, filter, true};
 ghost use Rattle.pack_defs.specs.declared.pair.Pair.{Pair};
@@ -12,7 +12,7 @@ use crate::course::WalkCourse;
 use pack_defs::book::Book;
 use pack_defs::pair::Pair;
 
-/// A pair of the book by its place: among those from a station, or among those to it.
+/// The place of a pair in the book: among the pairs from a station, or among those to a station.
 #[derive(Clone, Copy, Debug)]
 pub(crate) struct Pick {
     pub(crate) station: u32,
@@ -20,8 +20,8 @@ pub(crate) struct Pick {
     pub(crate) index: usize,
 }
 
-/// A violated pair of the walk's map: the one that is picked, if that is violated, else the first of all, if there is one.
-/// Where none is picked it costs a pass over the pairs from each of the stations.
+/// Returns a violated pair of the walk's map: the picked one, if it is violated, otherwise the first of all, if there is one. Without a
+/// violated pick the cost is a pass over the pairs from each station.
 pub(crate) fn violated(book: &Book, course: &WalkCourse, pick: Option<Pick>) -> Option<Pair>
     requires { book.now ≡ course.now.book }
     ensures some { IfSome result (λ p. IsViolated course.now.book course.now.entries p) }
@@ -33,7 +33,7 @@ pub(crate) fn violated(book: &Book, course: &WalkCourse, pick: Option<Pick>) -> 
     first_violated(book, course)
 }
 
-// The pair that is picked, if it is there and violated.
+// Returns the picked pair, if it exists and is violated.
 fn picked(book: &Book, course: &WalkCourse, pick: Option<Pick>) -> Option<Pair>
     requires { book.now ≡ course.now.book }
     ensures { IfSome result (λ p. IsViolated course.now.book course.now.entries p) }
@@ -52,7 +52,7 @@ fn picked(book: &Book, course: &WalkCourse, pick: Option<Pick>) -> Option<Pair>
     None
 }
 
-// The pairs among which one is picked.
+// Returns the list of pairs that the pick refers to.
 fn listed(book: &Book, pick: Pick) -> &[Pair]
     ensures { (p : Pair) → Contains result.now p → Contains book.now.pairs p }
 {
@@ -62,7 +62,7 @@ fn listed(book: &Book, pick: Pick) -> &[Pair]
     book.pairs_to(pick.station)
 }
 
-// The first violated pair of all, by a pass over the pairs from each of the stations.
+// Returns the first violated pair, by a pass over the pairs from each station.
 fn first_violated(book: &Book, course: &WalkCourse) -> Option<Pair>
     requires { book.now ≡ course.now.book }
     ensures some { IfSome result (λ p. IsViolated course.now.book course.now.entries p) }
@@ -77,7 +77,7 @@ fn first_violated(book: &Book, course: &WalkCourse) -> Option<Pair>
     None
 }
 
-// The first of the pairs from this entry's station that is violated.
+// Returns the first violated pair from this entry's station.
 fn violated_from(book: &Book, course: &WalkCourse, own: (u32, u8)) -> Option<Pair>
     requires book { book.now ≡ course.now.book }
     requires ascending { IsAscending course.now.entries }

@@ -1,22 +1,22 @@
-//! Where each station stands in a set, found at once for most.
+//! The place of each station in a set, by a hash table with one slot for most stations.
 
 use crate::policy::{LEAST_SLOTS, SLOT_DOUBLINGS, SLOTS_OF_STATION};
 use std::alloc::{AllocError as NoMemory, Global};
 
-// A slot that no station has.
+// The content of an empty slot.
 const FREE: u32 = u32::MAX;
 
-/// Where each station of an ascending set stands in it: at once for a station that has its slot to itself, else by halves.
-/// Nothing that the walk says rests on these places.
+/// The place of each station in an ascending set. A station with a slot of its own is found at once, any other by binary search. No
+/// answer depends on these places for its correctness.
 #[derive(Drop)]
 pub(crate) struct Places {
     set: Vec<u32>,
-    // For each slot, the place of a station whose number ends in it.
+    // For each slot, the place of the last station whose number ends in the slot.
     slots: Vec<u32>,
 }
 
 impl Places {
-    /// The places of a set, with at least four slots for each station.
+    /// Returns the places of a set, with at least four slots for each station.
     pub(crate) fn new(alloc: Global, entries: &[(u32, u8)]) -> Result<Places, NoMemory> {
         let mut set = Vec::with_capacity(alloc, entries.len())?;
         let mut slots = Vec::new(alloc);
@@ -29,7 +29,7 @@ impl Places {
         Ok(Places { set, slots })
     }
 
-    /// The place of a station, if the set has it.
+    /// Returns the place of a station, if the set has the station.
     pub(crate) fn place(&self, station: u32) -> Option<usize> {
         let slot = slot_of(&self.slots, station);
         if slot >= self.slots.len() || self.slots[slot] == FREE {
@@ -42,7 +42,7 @@ impl Places {
         self.set.binary_search(&station).ok()
     }
 
-    /// The station at a place; 0 past the end.
+    /// Returns the station at a place, or 0 past the end.
     pub(crate) fn station(&self, place: usize) -> u32 {
         if place < self.set.len() {
             self.set[place]
@@ -52,7 +52,7 @@ impl Places {
     }
 }
 
-// The number of slots for so many stations, a power of two.
+// Returns the number of slots for this many stations, a power of two.
 fn slots_for(stations: usize) -> usize {
     let mut slots = LEAST_SLOTS;
     for _ in 0..SLOT_DOUBLINGS {
@@ -64,7 +64,7 @@ fn slots_for(stations: usize) -> usize {
     slots
 }
 
-// The slot of a station.
+// Returns the slot of a station.
 fn slot_of(slots: &[u32], station: u32) -> usize {
     if slots.is_empty() {
         return 0;

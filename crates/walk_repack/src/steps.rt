@@ -1,9 +1,8 @@
-//! The whole walk: move after move, until no pair is violated, one is dead, the budget is spent or another query
-//! stands.
+//! The loop of the walk: move after move, until no pair is violated, a pair is dead, the budget is spent, or another query is current.
 //!
-//! `run` asks the poll now and then, and ends where it answers another number. Else it looks at a violated pair: where there
-//! is none, or that one is dead, it ends; where not, one station of the pair moves to another channel of its domain. Once
-//! as many moves are made as the budget has, it looks once more, without a move.
+//! `run` polls now and then, and ends if the poll returns another number. Otherwise it looks for a violated pair. If there is none, or
+//! the pair is dead, the walk ends. If not, one station of the pair moves to another channel of its domain. Once the budget of moves is
+//! spent, `run` looks once more, without a move.
 
 ghost use Rattle.std.specs.Prelude.{ℕ, ◌≡◌, ◌≤◌, IfOk, length};
 ghost use Rattle.walk_repack.specs.Steps.{WalkEndIs, WalkStepIs};
@@ -17,14 +16,14 @@ use pack_defs::book::Book;
 use pack_defs::pair::Pair;
 use std::alloc::AllocError as NoMemory;
 
-/// What a step of a walk comes to.
+/// The result of a step.
 #[derive(Debug, Drop)]
 pub(crate) enum WalkStep {
     /// No pair is violated.
     Clean,
     /// This pair is dead.
     Dead(Pair),
-    /// One move is made.
+    /// One move was made.
     Made,
 }
 
@@ -35,14 +34,14 @@ pub(crate) enum WalkEnd {
     Clean,
     /// This pair is dead.
     Dead(Pair),
-    /// The budget of moves is spent, and a pair is violated.
+    /// The budget of moves is spent, and a pair is still violated.
     Spent,
-    /// The poll answered another number.
+    /// The poll returned another number.
     Moved { now: u64 },
 }
 
-/// Walks until no pair is violated, or the violated pair that it looks at is dead, or so many moves are made, or the poll
-/// answers another number than this one.
+/// Walks until no pair is violated, the chosen violated pair is dead, the budget of moves is spent, or the poll returns a number other
+/// than `number`.
 pub(crate) fn run<P: Poll>(
     book: &Book,
     course: &mut WalkCourse,
@@ -71,7 +70,7 @@ pub(crate) fn run<P: Poll>(
     Ok(last_look(book, course, guide))
 }
 
-// Makes a move, if there is one to make.
+// Makes a move, if a move is possible.
 fn advance(book: &Book, course: &mut WalkCourse, guide: &mut Guide) -> Result<WalkStep, NoMemory>
     requires book { book.now ≡ course.old.book }
     ensures book { course.new.book ≡ course.old.book }
@@ -94,7 +93,7 @@ fn advance(book: &Book, course: &mut WalkCourse, guide: &mut Guide) -> Result<Wa
     }
 }
 
-// How a walk ends whose budget is spent.
+// Returns how a walk ends whose budget is spent.
 fn last_look(book: &Book, course: &WalkCourse, guide: &mut Guide) -> WalkEnd
     requires { book.now ≡ course.now.book }
     ensures { (number last : ℕ) → WalkEndIs course.now (length course.now.moves) number last result }

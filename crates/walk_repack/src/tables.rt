@@ -1,8 +1,8 @@
 //! How many pairs each station would violate on each channel, for the walk's policy.
 //!
-//! `violated` goes along the pairs from a station, from the first one of its channel up to the last. Those whose other
-//! station stands on the pair's other channel are violated: it passes over as many of these as it is told to, and says where
-//! the next one is. Where they come to an end before, `violated_to` goes on in the same way along all pairs to the station.
+//! `violated` scans the pairs from a station on its channel, which are adjacent. A pair is violated if its other station is on the pair's
+//! other channel. The scan skips a given number of violated pairs and returns the place of the next one. If these pairs run out before,
+//! `violated_to` continues through all pairs to the station.
 
 use crate::pick::Pick;
 use crate::places::Places;
@@ -11,24 +11,24 @@ use pack_defs::book::Book;
 use pack_defs::pair::Pair;
 use std::alloc::{AllocError as NoMemory, Global};
 
-/// How many pairs each station of a set would violate on each channel, given where the others are. Nothing that the walk
-/// says rests on these numbers.
+/// How many pairs each station of a set would violate on each channel, given where the others are. No answer depends on these numbers
+/// for its correctness.
 #[derive(Drop)]
 pub(crate) struct Tables<'a> {
     places: Places,
-    // For each place, the pairs from its station, and those to it.
+    // For each place, the pairs from its station, and the pairs to it.
     from: Vec<&'a [Pair]>,
     to: Vec<&'a [Pair]>,
     // For each place, the channel of its station.
     channels: Vec<u8>,
-    // A cell for each place and channel, `width` channels to a place.
+    // A cell for each place and channel, with `width` channels to a place.
     width: usize,
     counts: Vec<u32>,
     trouble: Trouble,
 }
 
 impl<'a> Tables<'a> {
-    /// The tables of a map. They cost what the pairs of its stations cost.
+    /// Returns the tables of a map. The cost is proportional to the pairs of its stations.
     pub(crate) fn new(
         alloc: Global,
         book: &'a Book,
@@ -40,7 +40,7 @@ impl<'a> Tables<'a> {
         Ok(tables)
     }
 
-    // The tables of a map, of so many channels, before its stations are counted.
+    // Returns the tables of a map before its stations are counted.
     fn uncounted(
         alloc: Global,
         width: usize,
@@ -57,7 +57,7 @@ impl<'a> Tables<'a> {
         })
     }
 
-    // Counts each station of the map, and keeps its pairs.
+    // Counts each station of the map, and stores its pairs.
     fn count_all(&mut self, book: &'a Book, entries: &[(u32, u8)]) -> Result<(), NoMemory> {
         self.counts
             .resize(entries.len().saturating_mul(self.width), 0)?;
@@ -70,12 +70,12 @@ impl<'a> Tables<'a> {
         Ok(())
     }
 
-    /// The number of cells.
+    /// Returns the number of cells.
     pub(crate) fn cells(&self) -> usize {
         self.counts.len()
     }
 
-    /// The cell of a station and a channel; the number of cells where the set hasn't the station.
+    /// Returns the cell of a station and a channel, or the number of cells if the set lacks the station.
     pub(crate) fn cell(&self, station: u32, channel: u8) -> usize {
         match self.places.place(station) {
             Some(place) => self.cell_at(place, channel),
@@ -83,7 +83,7 @@ impl<'a> Tables<'a> {
         }
     }
 
-    /// How many pairs the station of a cell would violate on its channel.
+    /// Returns how many pairs the station of a cell would violate on its channel.
     pub(crate) fn count(&self, cell: usize) -> u32 {
         if cell < self.counts.len() {
             self.counts[cell]
@@ -92,18 +92,18 @@ impl<'a> Tables<'a> {
         }
     }
 
-    /// How many stations are in trouble.
+    /// Returns the number of stations of violated pairs.
     pub(crate) fn troubled(&self) -> u32 {
         self.trouble.len()
     }
 
-    /// The n-th station in trouble, and its channel.
+    /// Returns the n-th station of a violated pair, and its channel.
     pub(crate) fn troubled_at(&self, n: u32) -> (u32, u8) {
         let place = self.trouble.get(n);
         (self.places.station(place), self.channel_at(place))
     }
 
-    /// Where the book lists the violated pair of a station that comes after so many others of its violated pairs.
+    /// Returns the place in the book of a station's violated pair, after skipping this many of its violated pairs.
     pub(crate) fn violated(&self, station: u32, channel: u8, skip: u32) -> Option<Pick> {
         let mut left = skip;
         let pairs = self.pairs_from(station);
@@ -143,7 +143,7 @@ impl<'a> Tables<'a> {
         None
     }
 
-    /// Moves a station from one channel to another, which changes the numbers of those that interfere with it there.
+    /// Moves a station from one channel to another, and updates the counts of the stations that interfere with it there.
     pub(crate) fn shift(&mut self, station: u32, from: u8, to: u8) {
         let Some(place) = self.places.place(station) else {
             return;
@@ -212,7 +212,7 @@ impl<'a> Tables<'a> {
         }
     }
 
-    // The pairs from a station of the set, and those to it.
+    // Returns the pairs from a station of the set.
     fn pairs_from(&self, station: u32) -> &'a [Pair] {
         listed(&self.from, self.places.place(station))
     }
@@ -243,7 +243,7 @@ impl<'a> Tables<'a> {
     }
 }
 
-// The pairs of a place; none where there is no place.
+// Returns the pairs of a place; none without a place.
 fn listed<'a>(lists: &[&'a [Pair]], place: Option<usize>) -> &'a [Pair] {
     match place {
         Some(at) => { if at < lists.len() { lists[at] } else { &[] } }
@@ -251,7 +251,7 @@ fn listed<'a>(lists: &[&'a [Pair]], place: Option<usize>) -> &'a [Pair] {
     }
 }
 
-// The channel of each entry.
+// Returns the channel of each entry.
 fn channels_of(alloc: Global, entries: &[(u32, u8)]) -> Result<Vec<u8>, NoMemory> {
     let mut channels = Vec::with_capacity(alloc, entries.len())?;
     for x in entries {
@@ -260,7 +260,7 @@ fn channels_of(alloc: Global, entries: &[(u32, u8)]) -> Result<Vec<u8>, NoMemory
     Ok(channels)
 }
 
-// Those of a station's pairs whose first channel is this one. They stand together.
+// Returns the pairs of one station whose first channel is this one. They are adjacent.
 fn on_channel(pairs: &[Pair], channel: u8) -> &[Pair] {
     let rest = &pairs[pairs.partition_point(|p| p.a < channel)..];
     &rest[..rest.partition_point(|p| p.a <= channel)]

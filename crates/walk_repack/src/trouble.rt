@@ -2,19 +2,19 @@
 
 use std::alloc::{AllocError as NoMemory, Global};
 
-/// The places of the stations in trouble, which are of violated pairs, as a sparse set: one is put in, taken out or looked
-/// up at once, and so is the n-th of them. Nothing that the walk says rests on this set.
+/// The places of the stations of violated pairs, as a sparse set. Inserting, removing and looking up a place take constant time, and so
+/// does reading the n-th place. No answer depends on this set for its correctness.
 #[derive(Drop)]
 pub(crate) struct Trouble {
-    // The places in the set come first, `count` of them.
+    // The first `count` places are in the set.
     places: Vec<u32>,
     count: usize,
-    // For each place, where it stands among them, if it does.
+    // For each place, its index among these, if it is in the set.
     index: Vec<u32>,
 }
 
 impl Trouble {
-    /// The empty set, over so many places.
+    /// Returns the empty set, over this many places.
     pub(crate) fn new(alloc: Global, places: usize) -> Result<Trouble, NoMemory> {
         let mut trouble = Trouble {
             places: Vec::new(alloc),
@@ -26,12 +26,12 @@ impl Trouble {
         Ok(trouble)
     }
 
-    /// How many places are in it.
+    /// Returns the number of places in the set.
     pub(crate) fn len(&self) -> u32 {
         self.count.min(u32::MAX as usize) as u32
     }
 
-    /// The n-th of its places, from 0; the number of places past the last.
+    /// Returns the n-th place of the set, from 0; past the last, the number of all places.
     pub(crate) fn get(&self, n: u32) -> usize {
         if n < self.len() {
             read(&self.places, n as usize)
@@ -40,7 +40,7 @@ impl Trouble {
         }
     }
 
-    /// Puts a place in or takes it out.
+    /// Inserts or removes a place.
     pub(crate) fn set(&mut self, place: usize, is_in: bool) {
         if self.has(place) == is_in {
             return;
@@ -63,7 +63,7 @@ impl Trouble {
         self.count = self.count.saturating_add(1);
     }
 
-    // The last place comes where the one was that goes.
+    // Removes a place, and moves the last place to its index.
     fn remove(&mut self, place: usize) {
         self.count = self.count.saturating_sub(1);
         let at = read(&self.index, place);
@@ -73,7 +73,7 @@ impl Trouble {
     }
 }
 
-// The number at a place; 0 past the end.
+// Returns the number at a place, or 0 past the end.
 fn read(numbers: &[u32], at: usize) -> usize {
     if at < numbers.len() {
         numbers[at] as usize
@@ -82,7 +82,7 @@ fn read(numbers: &[u32], at: usize) -> usize {
     }
 }
 
-// Writes a number to a place, if it is there.
+// Writes a number to a place, unless the place is past the end.
 fn write(numbers: &mut [u32], at: usize, number: usize) {
     if at < numbers.len() {
         numbers[at] = number.min(u32::MAX as usize) as u32;

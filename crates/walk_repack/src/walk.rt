@@ -1,4 +1,4 @@
-//! The solver of a worker that walks, as the layers above see it.
+//! The solver of a worker that walks, as other crates see it.
 
 ghost use Rattle.std.specs.Prelude.{ℕ, ◌≡◌, [], IfOk, false};
 ghost use Rattle.cert_types.specs.Valid.{learns};
@@ -19,8 +19,7 @@ use pack_defs::worker::Worker;
 use std::alloc::{AllocError as NoMemory, Global};
 use std::marker::Model;
 
-/// A solver that walks over channel maps from the query's start map, and says what its walk shows. It is for a worker that
-/// walks. Contracts see it as its worker.
+/// A solver that walks over channel maps from the query's start map, for a worker of kind walk. Contracts see the worker.
 #[derive(Drop)]
 pub struct Walk {
     worker: Worker,
@@ -39,7 +38,10 @@ impl Model for Walk {
 }
 
 impl Walk {
-    /// The solver of a worker that walks, which spends the worker's budget in moves. The only error is want of memory.
+    /// Returns the solver of a worker that walks, which spends the worker's budget in moves.
+    ///
+    /// # Errors
+    /// Fails only if memory runs out.
     pub fn new(_alloc: Global, worker: &Worker) -> Result<Walk, NoMemory>
         requires { worker.now.kind ≡ Kind.Walk }
         ensures { IfOk result (λ solver. solver ≡ worker.now) }
@@ -47,15 +49,18 @@ impl Walk {
         Ok(Walk { worker: *worker })
     }
 
-    /// Tries to answer a query. What it says is valid for the book, the query and its worker: the channels that make the
-    /// last map one of the set; a violated pair of which each station has one channel; or, where so many moves are made and
-    /// some pair is violated still, a receipt of them. Where the poll answers that another query stands, it stops. Each
-    /// attempt begins anew, with the choices of the worker's seed in the stream of the query's number, so that it makes the
-    /// same moves each time, and can be called again whatever it answered.
+    /// Tries to answer a query. The answer is valid for the book, the query and the worker. It is one of:
+    ///
+    /// - a fit: the channels that turn the last map into a map of the set;
+    /// - a refutation: a violated pair whose stations have one channel each;
+    /// - a receipt of the moves, if the budget is spent and some pair is still violated.
+    ///
+    /// The walk stops if the poll reports that another query is current. Each attempt starts over, with the random choices of the
+    /// worker's seed in the stream of the query's number. So it makes the same moves each time, and can be repeated whatever it
+    /// returned.
     ///
     /// # Errors
-    ///
-    /// Want of memory.
+    /// Fails only if memory runs out.
     pub fn attempt<P: Poll>(
         &mut self,
         alloc: Global,
@@ -83,7 +88,7 @@ impl Walk {
     }
 }
 
-// The walk that is at the query's start map.
+// Returns the walk at the query's start map.
 fn begin(alloc: Global, book: &Book, task: &Task) -> Result<WalkCourse, NoMemory>
     requires { IsQuery book.now task.now }
     ensures book { IfOk result (λ course. course.book ≡ book.now) }
@@ -94,7 +99,7 @@ fn begin(alloc: Global, book: &Book, task: &Task) -> Result<WalkCourse, NoMemory
     Ok(WalkCourse::new(alloc, book, entries))
 }
 
-// What a walk says that ended so.
+// Turns the end of a walk into the result of the attempt.
 fn ended(
     alloc: Global,
     book: &Book,

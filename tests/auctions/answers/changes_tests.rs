@@ -1,4 +1,4 @@
-//! Fits of queries made at random: the check by the changed stations says of each what the check of the whole map says.
+//! Over random fits, the check that looks only at changed stations agrees with the check of the complete map.
 
 use crate::auctions::answers::fresh_tests::{next, pick};
 use crate::auctions::answers::samples::{four_stations, task};
@@ -21,7 +21,7 @@ use std::test::Fail;
 
 const STATIONS: &[u32] = &[1, 2, 3, 4, 5, 6, 7, 8, 9, 10, 11, 12];
 
-// Two or all of the three channels.
+// Returns two or all of the three channels.
 fn channels(kind: u64) -> &'static [u8] {
     match kind {
         0 => return &[14, 15],
@@ -36,7 +36,7 @@ fn domain(alloc: Global, station: u32, seed: u64) -> Result<Domain, NoMemory> {
     Ok(Domain { station, channels })
 }
 
-// Stations on channels that look random.
+// Returns pseudorandom domains of these stations.
 fn domains(alloc: Global, stations: &[u32], start: u64) -> Result<Vec<Domain>, NoMemory> {
     let mut domains = Vec::new(alloc);
     let mut seed = start;
@@ -47,7 +47,8 @@ fn domains(alloc: Global, stations: &[u32], start: u64) -> Result<Vec<Domain>, N
     Ok(domains)
 }
 
-// A station may not share a channel with the next one, nor be one channel below the third after it.
+// Returns pair number `k`. A station may not share a channel with the next one. It may not be one channel below the third station after it
+// (14 counts as the channel above 16).
 fn pair_at(k: u32) -> Pair {
     Pair {
         f: k / 6 + 1,
@@ -71,7 +72,7 @@ fn book(alloc: Global, start: u64) -> Result<Book, NoMemory> {
     Book::build(alloc, 16, STATIONS, &domains, &pairs)
 }
 
-// The map with one station on this channel.
+// Returns the map with one station moved to this channel.
 fn with(alloc: Global, map: &ChannelMap, station: u32, c: u8) -> Result<ChannelMap, NoMemory> {
     map.overlay(alloc, &ChannelMap::of(alloc, &[(station, c)])?)
 }
@@ -81,7 +82,7 @@ fn is_clean(book: &Book, map: &ChannelMap) -> bool {
     violation(book, map).is_none()
 }
 
-// The map with the station on a channel of its domain, if there is one that violates nothing.
+// Puts the station on a channel of its domain that violates nothing. Returns the map unchanged if every channel violates a pair.
 fn placed(
     alloc: Global,
     book: &Book,
@@ -100,7 +101,7 @@ fn placed(
     Ok(map)
 }
 
-// A map of all stations but one, as far as they find room.
+// Returns a map of all stations except the tested one; a station without a free channel is left out.
 fn last_map(alloc: Global, book: &Book, tested: u32, start: u64) -> Result<ChannelMap, NoMemory> {
     let mut map = ChannelMap::of(alloc, &[])?;
     let mut seed = start;
@@ -114,7 +115,8 @@ fn last_map(alloc: Global, book: &Book, tested: u32, start: u64) -> Result<Chann
     Ok(map)
 }
 
-// At most three stations of which one may be a stranger, on channels of which one is none of theirs, and mostly the tested one.
+// Returns changes of at most three random stations, and in seven of eight cases the tested one. Station 13 is not in the book, and channel
+// 17 is in no domain.
 fn changes(alloc: Global, tested: u32, start: u64) -> Result<ChannelMap, NoMemory> {
     let mut map = ChannelMap::of(alloc, &[])?;
     let mut seed = next(start);
@@ -135,7 +137,7 @@ fn changes(alloc: Global, tested: u32, start: u64) -> Result<ChannelMap, NoMemor
     with(alloc, &map, tested, 14 + pick(next(often), 3) as u8)
 }
 
-// What a fit of a query came to.
+// How the checks judge a fit.
 #[derive(Clone, Copy, PartialEq, Eq)]
 enum Met {
     Valid,
@@ -143,11 +145,11 @@ enum Met {
     OffDomain,
     OfAStranger,
     WithoutTheTested,
-    // The two checks say unlike things of it.
+    // The two checks disagree.
     Unlike,
 }
 
-// How a fit is at fault; `named` says whether it has the tested station.
+// Classifies a fit by the place of its first error. `named` says whether the fit has the tested station.
 fn fault_of(place: Option<Place>, named: bool) -> Met {
     if !named {
         return Met::WithoutTheTested;
@@ -165,7 +167,7 @@ fn same_fit(alloc: Global, delta: &ChannelMap) -> Result<Answer, NoMemory> {
     Ok(Answer::Fit(delta.overlay(alloc, &none)?))
 }
 
-// What both checks say of a fit.
+// Returns the verdict that both checks share, or `Unlike`.
 fn judged(
     alloc: Global,
     book: &Book,
@@ -183,7 +185,7 @@ fn judged(
     Ok(fault_of(at, named))
 }
 
-// Twenty fits of a query, judged.
+// Judges twenty random fits of a query.
 fn judge(
     alloc: Global,
     book: &Book,
@@ -211,7 +213,7 @@ fn task_at_random(alloc: Global, book: &Book, tested: u32, number: u64) -> Resul
     })
 }
 
-// Judges the fits of a task, if it is a query.
+// Judges the fits of a random task, if the task is a query.
 fn try_at_random(alloc: Global, number: u64, all: &mut Vec<Met>) -> Result<(), NoMemory> {
     let book = book(alloc, number)?;
     let tested = 1 + pick(number, 12) as u32;
@@ -244,7 +246,7 @@ fn changes_decide(rt: HostRuntime) -> Result<(), Fail> {
     Ok(())
 }
 
-// Whether a task whose last map has stations 1 and 2 on one channel is a query, and where a fit of station 3 is at fault.
+// Uses a last map with stations 1 and 2 on one channel. Returns whether that task is a query, and the first error of a fit of station 3.
 fn broken_before(alloc: Global) -> Result<(bool, Option<Place>), NoMemory> {
     let book = four_stations(alloc)?;
     let task = task(alloc, &[1, 2, 3], &[(1, 14), (2, 14)])?;

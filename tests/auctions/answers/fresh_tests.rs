@@ -1,4 +1,4 @@
-//! The first line that is not new, beside a look at all earlier ones, over clauses and lines made at random.
+//! `first_stale` agrees with a scan of all earlier lines, over random clauses and lines.
 
 use crate::samples::answers::lits;
 use cert_types::fresh::first_stale;
@@ -8,21 +8,21 @@ use rup_check::lines::Lines;
 use std::alloc::{AllocError as NoMemory, Global};
 use std::test::Fail;
 
-// A row of numbers that look random, each made from the one before by Knuth's multiplier.
+// Returns the next pseudorandom number (Knuth's multiplier).
 pub(crate) fn next(seed: u64) -> u64 {
     seed.wrapping_mul(6364136223846793005)
         .wrapping_add(1442695040888963407)
 }
 
-// A number below the limit.
+// Returns a number below the limit, from the upper bits of the seed.
 pub(crate) fn pick(seed: u64, limit: u64) -> u64 {
     (seed >> 33) % limit
 }
 
-// At most four literals of the variables 0 to 5, of which the list has 1 to 4. One may stand twice.
+// Returns at most four literals of the variables 0 to 5; the clause list has variables 1 to 4. A literal may repeat.
 fn literals(alloc: Global, start: u64) -> Result<Vec<Lit>, NoMemory> {
     let mut lits = Vec::new(alloc);
-    // So that the literals are none of the row that the start is of.
+    // Leaves the sequence of `start`, whose later numbers seed the other clauses and lines.
     let mut seed = next(start ^ 0x5555_5555_5555_5555);
     for _ in 0..pick(seed, 5) {
         seed = next(seed);
@@ -45,7 +45,7 @@ fn clauses(alloc: Global, start: u64) -> Result<ClauseList, NoMemory> {
     Ok(clauses)
 }
 
-// The literals of each line.
+// Returns the literals of each line.
 fn lines(alloc: Global, start: u64) -> Result<Vec<Vec<Lit>>, NoMemory> {
     let mut lines = Vec::new(alloc);
     let mut seed = next(start);
@@ -56,7 +56,7 @@ fn lines(alloc: Global, start: u64) -> Result<Vec<Vec<Lit>>, NoMemory> {
     Ok(lines)
 }
 
-// Lines of these literals, without hints.
+// Packs lines of these literals, without hints.
 fn packed(alloc: Global, lines: &[Vec<Lit>]) -> Result<Lines, NoMemory> {
     let mut packed = Lines::new(alloc);
     for lits in lines {
@@ -74,7 +74,7 @@ fn is_subset(clause: &[Lit], lits: &[Lit]) -> bool {
     true
 }
 
-// Whether a clause or one of these lines is a subset of the literals.
+// Checks whether a clause or one of these lines is a subset of the literals.
 fn has_subset(clauses: &ClauseList, lines: &[Vec<Lit>], lits: &[Lit]) -> bool {
     for i in 0..clauses.len() {
         if is_subset(clauses.get(i + 1), lits) {
@@ -89,7 +89,7 @@ fn has_subset(clauses: &ClauseList, lines: &[Vec<Lit>], lits: &[Lit]) -> bool {
     false
 }
 
-// The first line, from 1, of which a clause or an earlier line is a subset, by a look at all of them.
+// Scans for the first line, from 1, that has a clause or an earlier line as a subset.
 fn first_by_scan(clauses: &ClauseList, lines: &[Vec<Lit>]) -> Option<u64> {
     for (i, line) in lines.iter().enumerate() {
         if has_subset(clauses, &lines[..i], line) {
@@ -99,7 +99,7 @@ fn first_by_scan(clauses: &ClauseList, lines: &[Vec<Lit>]) -> Option<u64> {
     None
 }
 
-// The first line that is not new, where the scan says the same; else 1000.
+// Returns the first line that is not new, or 0 if every line is new. Returns 1000 if the scan disagrees.
 fn agreed(alloc: Global, seed: u64) -> Result<u64, NoMemory> {
     let clauses = clauses(alloc, seed)?;
     let lines = lines(alloc, seed + 1_000_000)?;
@@ -120,12 +120,12 @@ fn agrees_with_a_scan(rt: HostRuntime) -> Result<(), Fail> {
             seen[place as usize] = true;
         }
     }
-    // None, and each of the first five lines.
+    // Index 0 means that every line is new; 1 to 5 are the first five lines.
     assert_eq!(rt; seen, [true; 6]);
     Ok(())
 }
 
-// The clauses of the variables 1 to 70.
+// Returns a clause list over the variables 1 to 70.
 fn clauses_of(alloc: Global, rows: &[&[i64]]) -> Result<ClauseList, NoMemory> {
     let mut clauses = ClauseList::new(alloc, 70);
     for row in rows {
@@ -142,7 +142,7 @@ fn lines_of(alloc: Global, rows: &[&[i64]]) -> Result<Vec<Vec<Lit>>, NoMemory> {
     Ok(lines)
 }
 
-// The first row whose first line that is not new is another one, or is another one by the scan, by its place from 0.
+// Returns the index of the first row for which `first_stale` or the scan finds another line than expected.
 fn wrong_row(
     alloc: Global,
     rows: &[(&[&[i64]], &[&[i64]], Option<u64>)],
@@ -162,14 +162,14 @@ fn wrong_row(
 #[test]
 fn what_is_filed_where(rt: HostRuntime) -> Result<(), Fail> {
     const ROWS: &[(&[&[i64]], &[&[i64]], Option<u64>)] = &[
-        // A clause with a literal that no line has, alone and before one that stands within a line.
+        // A clause has a literal that is in no line. It is alone, or before a clause that is a subset of a line.
         (&[&[1, 9]], &[&[1, 2], &[2, 3]], None),
         (&[&[1, 9], &[2, 3]], &[&[1, 2], &[1, 2, 3]], Some(2)),
         // The variables 1 and 65 set the same bit.
         (&[&[65, 2, 3]], &[&[1, 2, 3], &[65, 4]], None),
         (&[&[65, 2, 3]], &[&[1, 2, 3], &[65, 4, 3, 2]], Some(2)),
         (&[], &[&[65, 2, 3], &[1, 2, 3, 4], &[-65, 2, 3]], None),
-        // The clause's rarest literal stands in no line before the one at fault.
+        // The clause's rarest literal is in no line before the stale one.
         (
             &[&[7, 1, 2]],
             &[&[1, 2, 3], &[1, 2, 4], &[5, 1, 2, 7]],

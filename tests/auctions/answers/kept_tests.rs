@@ -1,4 +1,4 @@
-//! Answers that the check lets through, or hands back: each is still the same.
+//! An accepted answer is kept unchanged, and a rejected one comes back unchanged.
 
 use crate::auctions::answers::samples::{
     NOT_ONE, OUT_OF_TURN, THE_END, Text, four_stations, proof, receipt, task,
@@ -66,7 +66,7 @@ fn same(one: &Answer, other: &Answer) -> bool {
     }
 }
 
-// Whether an answer was let through and is still this one.
+// Checks whether the answer is accepted and still equals this one.
 fn holds(checked: Result<Certified, CertifyFault>, answer: &Answer) -> bool {
     match checked {
         Ok(certified) => {
@@ -76,7 +76,7 @@ fn holds(checked: Result<Certified, CertifyFault>, answer: &Answer) -> bool {
     }
 }
 
-// Whether an answer was refused and came back as this one.
+// Checks whether the answer is rejected and comes back equal to this one.
 fn hands_back(checked: Result<Certified, CertifyFault>, answer: &Answer) -> bool {
     match checked {
         Ok(_) => false,
@@ -84,16 +84,16 @@ fn hands_back(checked: Result<Certified, CertifyFault>, answer: &Answer) -> bool
     }
 }
 
-// An answer to the test of the first three stations, while 1 is on 15 and 2 on 14.
+// An answer to the test of stations 1 to 3, while 1 is on 15 and 2 on 14.
 #[derive(Clone, Copy)]
 enum Given {
-    // A log over the clauses of the three.
+    // A log over the clauses of the three stations.
     Proof(&'static [Text<'static>]),
-    // Lines that were derived.
+    // A receipt of derived lines.
     Lines(&'static [Text<'static>]),
-    // A channel for station 3, which makes no valid fit.
+    // A channel for station 3, which is never a valid fit.
     Third(u8),
-    // One move of station 3.
+    // A receipt of one move of station 3.
     Moved(u8),
 }
 
@@ -106,14 +106,14 @@ fn made(alloc: Global, given: Given) -> Result<Answer, NoMemory> {
     }
 }
 
-// Whether an answer that the check lets through is still the same.
+// Checks whether this answer is accepted unchanged.
 fn goes_through(alloc: Global, budget: u32, given: Given) -> Result<bool, NoMemory> {
     let again = made(alloc, given)?;
     let answer = made(alloc, given)?;
     Ok(holds(checked(alloc, budget, answer)?, &again))
 }
 
-// Whether an answer that the check refuses comes back as the same.
+// Checks whether this answer is rejected and comes back unchanged.
 fn comes_back(alloc: Global, budget: u32, given: Given) -> Result<bool, NoMemory> {
     let again = made(alloc, given)?;
     let answer = made(alloc, given)?;
@@ -146,7 +146,7 @@ fn refused_answers_come_back(rt: HostRuntime) -> Result<(), Fail> {
     Ok(())
 }
 
-// Whether a fit of stations 1 and 2 goes through, while 1 is on 15 and 2 comes onto 14.
+// Checks whether a fit of stations 1 and 2 is accepted unchanged: 1 stays on 15, and 2 gets 14.
 fn fits_over_two(alloc: Global) -> Result<bool, NoMemory> {
     let again = fit(alloc, &[(2, 14)])?;
     let answer = fit(alloc, &[(2, 14)])?;
@@ -155,7 +155,7 @@ fn fits_over_two(alloc: Global) -> Result<bool, NoMemory> {
     Ok(holds(certify(alloc, &book, &two, &learner(1), answer), &again))
 }
 
-// Whether a log over the clauses of three stations goes through, of the test of four.
+// Checks whether a log over the clauses of three stations is accepted for a set of four.
 fn refutes_over_four(alloc: Global) -> Result<bool, NoMemory> {
     let again = proof(alloc, ALL, &[NOT_ONE, THE_END])?;
     let answer = proof(alloc, ALL, &[NOT_ONE, THE_END])?;

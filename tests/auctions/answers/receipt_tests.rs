@@ -1,4 +1,4 @@
-//! Receipts of lines, each with the place at which it is at fault.
+//! Each invalid receipt of lines is rejected at the place of its first error.
 
 use crate::auctions::answers::samples::{
     CLAUSE_AGAIN, EMPTY_AGAIN, NOT_ONE, NOT_TWO, OUT_OF_TURN, PADDED, PADDED_LINE, THE_END, Text,
@@ -17,8 +17,7 @@ const SECOND: Option<Place> = Some(Place::LineAt(2));
 
 const THIRD: Option<Place> = Some(Place::LineAt(3));
 
-// The first of these receipts that is not at fault where it should be, by its place from 0. Each has a budget and the lines
-// of its log.
+// Returns the index of the first case whose receipt has another result than expected. A case has a budget and the lines of a log.
 fn wrong_receipt(
     alloc: Global,
     cases: &[(u32, &[Text], Option<Place>)],
@@ -47,17 +46,17 @@ fn faults_of_receipts(rt: HostRuntime) -> Result<(), Fail> {
 #[test]
 fn lines_that_say_nothing_new(rt: HostRuntime) -> Result<(), Fail> {
     const CASES: &[(u32, &[Text], Option<Place>)] = &[
-        // A clause stands within the line, or is the line.
+        // A clause is a subset of the line, or equals it.
         (1, &[PADDED], FIRST),
         (1, &[CLAUSE_AGAIN], FIRST),
         (2, &[NOT_TWO, PADDED], SECOND),
-        // An earlier line stands within the line, or is the line.
+        // An earlier line is a subset of the line, or equals it.
         (2, &[NOT_ONE, NOT_ONE], SECOND),
         (2, &[NOT_ONE, PADDED_LINE], SECOND),
         (2, &[WIDER, WIDER], SECOND),
         (3, &[NOT_ONE, NOT_TWO, PADDED_LINE], THIRD),
         (3, &[NOT_ONE, NOT_TWO, NOT_ONE], THIRD),
-        // The line stands within an earlier one, and none within it.
+        // The line is a subset of an earlier one, but no earlier line is a subset of it.
         (2, &[WIDER, NOT_ONE], None),
         (2, &[NOT_ONE, NOT_TWO], None),
         (3, &[WIDER, NOT_ONE, NOT_TWO], None),
@@ -73,7 +72,7 @@ fn first_of_two_faults_of_receipts(rt: HostRuntime) -> Result<(), Fail> {
         (3, &[OUT_OF_TURN, THE_END], COUNT),
         (3, &[OUT_OF_TURN, EMPTY_AGAIN, NOT_ONE], FIRST),
         (3, &[NOT_ONE, THE_END, OUT_OF_TURN], SECOND),
-        // A line that is not new before an empty one, and before one that does not follow; and the other way round.
+        // A line that is not new with an empty line or with one that does not follow, in both orders.
         (2, &[PADDED, THE_END], FIRST),
         (3, &[NOT_ONE, THE_END, NOT_ONE], SECOND),
         (2, &[PADDED, OUT_OF_TURN], FIRST),

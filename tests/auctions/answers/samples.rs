@@ -1,4 +1,4 @@
-//! A book of four stations, its queries, and answers to them, for the tests of this crate.
+//! A book of four stations, tasks over it, and answers to them.
 
 use crate::samples::answers::lits;
 use crate::samples::books::{all_apart, apart, book, on};
@@ -11,7 +11,7 @@ use rup_check::line::Log;
 use rup_check::lines::Lines;
 use std::alloc::{AllocError as NoMemory, Global};
 
-// A line of an LRAT text without its number: its literals, a negative one for the opposite, and its hints.
+// A line of an LRAT text without its number: its literals, negative if negated, and its hints.
 #[derive(Clone, Copy)]
 pub(crate) struct Text<'a> {
     lits: &'a [i64],
@@ -30,7 +30,7 @@ pub(crate) const THE_END: Text<'static> = Text {
     hints: &[13, 1, 9, 2, 10, 3, 11],
 };
 
-// 13 -1 0 2 7 8 3 12 0: its first hint has two open literals
+// 13 -1 0 2 7 8 3 12 0: two literals of its first hint are unassigned
 pub(crate) const OUT_OF_TURN: Text<'static> = Text {
     lits: &[-1],
     hints: &[2, 7, 8, 3, 12],
@@ -42,31 +42,31 @@ pub(crate) const NOT_TWO: Text<'static> = Text {
     hints: &[9, 2, 10, 3, 11],
 };
 
-// 13 -1 5 0 7 2 3 12 0: `NOT_ONE` is a subset of it
+// 13 -1 5 0 7 2 3 12 0: `NOT_ONE` is a subset of this line
 pub(crate) const WIDER: Text<'static> = Text {
     lits: &[-1, 5],
     hints: &[7, 2, 3, 12],
 };
 
-// 13 -1 -2 0 4 0: clause 4 again
+// 13 -1 -2 0 4 0: equals clause 4
 pub(crate) const CLAUSE_AGAIN: Text<'static> = Text {
     lits: &[-1, -2],
     hints: &[4],
 };
 
-// 13 -1 -2 3 0 4 0: it follows, but clause 4 is a subset of it
+// 13 -1 -2 3 0 4 0: follows, but clause 4 is a subset of this line
 pub(crate) const PADDED: Text<'static> = Text {
     lits: &[-1, -2, 3],
     hints: &[4],
 };
 
-// 14 -1 5 0 13 0: it follows from the line `NOT_ONE` before it, which is a subset of it
+// 14 -1 5 0 13 0: follows from the line `NOT_ONE` before it, but `NOT_ONE` is a subset of this line
 pub(crate) const PADDED_LINE: Text<'static> = Text {
     lits: &[-1, 5],
     hints: &[13],
 };
 
-// 15 0 14 0: after an empty line
+// 15 0 14 0: a second empty line
 pub(crate) const EMPTY_AGAIN: Text<'static> = Text {
     lits: &[],
     hints: &[14],
@@ -91,7 +91,7 @@ pub(crate) fn receipt(alloc: Global, texts: &[Text]) -> Result<Answer, NoMemory>
     Ok(Answer::Spent(Receipt::Lines(log(alloc, texts)?)))
 }
 
-// Stations 1 to 4 on two channels. No two of the first three may share one, and the fourth interferes with none.
+// Returns the book of stations 1 to 4 on two channels. No two of stations 1 to 3 may share a channel; station 4 interferes with none.
 pub(crate) fn four_stations(alloc: Global) -> Result<Book, NoMemory> {
     let domains = [
         on(alloc, 1, &[14, 15])?,
@@ -103,7 +103,7 @@ pub(crate) fn four_stations(alloc: Global) -> Result<Book, NoMemory> {
     book(alloc, &[1, 2, 3, 4], &domains, &pairs)
 }
 
-// Stations 1, 2 and 4 on channel 14, and 3 on two channels. Stations 1, 2 and 3 may not share channel 14.
+// Returns the book of stations 1, 2 and 4 on channel 14, and 3 on two channels. No two of stations 1 to 3 may share channel 14.
 pub(crate) fn crowded_stations(alloc: Global) -> Result<Book, NoMemory> {
     let domains = [
         on(alloc, 1, &[14])?,
@@ -115,7 +115,7 @@ pub(crate) fn crowded_stations(alloc: Global) -> Result<Book, NoMemory> {
     book(alloc, &[1, 2, 3, 4], &domains, &pairs)
 }
 
-// The test of the last station of a set, while these channels stand.
+// Returns the test of station 3 with this set, at query 5 in round 2. The last map has these channels.
 pub(crate) fn task(alloc: Global, set: &[u32], last: &[(u32, u8)]) -> Result<Task, NoMemory> {
     Ok(Task {
         number: 5,

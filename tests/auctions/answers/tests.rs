@@ -1,4 +1,4 @@
-//! What the check says of answers of each kind, right ones and wrong ones.
+//! `certify` accepts valid answers of each kind and reports the first error of the others.
 
 use crate::auctions::answers::samples::{
     EMPTY_AGAIN, NOT_ONE, OUT_OF_TURN, THE_END, Text, crowded_stations, four_stations, log, proof,
@@ -28,7 +28,7 @@ const FIRST: Option<Place> = Some(Place::LineAt(1));
 
 const SECOND: Option<Place> = Some(Place::LineAt(2));
 
-// What the check says of an answer to the test of the first three stations, while 1 is on 15 and 2 on 14.
+// Checks an answer to the test of stations 1 to 3, while 1 is on 15 and 2 on 14.
 pub(crate) fn checked(
     alloc: Global,
     budget: u32,
@@ -39,12 +39,12 @@ pub(crate) fn checked(
     Ok(certify(alloc, &book, &task, &learner(budget), answer))
 }
 
-// Where the answer is at fault.
+// Returns the place of the answer's first error.
 pub(crate) fn fault(alloc: Global, budget: u32, answer: Answer) -> Result<Option<Place>, NoMemory> {
     place(checked(alloc, budget, answer)?)
 }
 
-// The place of a refusal.
+// Returns the place of a rejection, or `None` if the answer is accepted.
 pub(crate) fn place(checked: Result<Certified, CertifyFault>) -> Result<Option<Place>, NoMemory> {
     match checked {
         Ok(_) => Ok(None),
@@ -55,8 +55,7 @@ pub(crate) fn place(checked: Result<Certified, CertifyFault>) -> Result<Option<P
     }
 }
 
-// The first of these proofs that is not at fault where it should be, by its place from 0. Each has a budget, a subset and
-// the lines of its log.
+// Returns the index of the first case whose proof has another result than expected. A case has a budget, a subset and the lines of a log.
 fn wrong_proof(
     alloc: Global,
     cases: &[(u32, &[u32], &[Text], Option<Place>)],
@@ -72,16 +71,17 @@ fn wrong_proof(
 #[test]
 fn faults_of_proofs(rt: HostRuntime) -> Result<(), Fail> {
     const CASES: &[(u32, &[u32], &[Text], Option<Place>)] = &[
-        // The number of lines.
+        // The number of lines is invalid.
         (1000, ALL, &[], COUNT),
         (1, ALL, &[NOT_ONE, THE_END], COUNT),
         (2, ALL, &[NOT_ONE, THE_END], None),
-        // The subset: out of order, one station twice, a stranger; and one whose clauses have other numbers.
+        // The subset is out of order, repeats a station, or has a station that is not tested. In the last case its clauses have other
+        // numbers.
         (2, &[1, 3, 2], &[NOT_ONE, THE_END], SUBSET),
         (2, &[1, 1, 2], &[NOT_ONE, THE_END], SUBSET),
         (2, &[1, 2, 4], &[NOT_ONE, THE_END], SUBSET),
         (2, &[1, 2], &[NOT_ONE, THE_END], FIRST),
-        // A line that does not follow, a last line that is not empty, an empty line before the last.
+        // A line does not follow, the last line is not empty, or an empty line is not the last.
         (9, ALL, &[OUT_OF_TURN, THE_END], FIRST),
         (9, ALL, &[NOT_ONE, OUT_OF_TURN, THE_END], SECOND),
         (9, ALL, &[NOT_ONE], FIRST),
@@ -91,7 +91,8 @@ fn faults_of_proofs(rt: HostRuntime) -> Result<(), Fail> {
     Ok(())
 }
 
-// Where a log from outside is at fault, of the test of the first three stations; and that it comes back.
+// Returns the place of the first error of an outside log, for the test of stations 1 to 3. Returns `Place::Kind` if the log comes back with
+// another length.
 fn outside_fault(alloc: Global, log: Log) -> Result<Option<Place>, NoMemory> {
     let book = four_stations(alloc)?;
     let task = task(alloc, &[1, 2, 3], &[(1, 15), (2, 14)])?;
@@ -111,7 +112,7 @@ fn faults_of_logs_from_outside(rt: HostRuntime) -> Result<(), Fail> {
     const CASES: &[(&[Text], Option<Place>)] = &[
         (&[NOT_ONE, THE_END], None),
         (&[], COUNT),
-        // A line that does not follow, a last line that is not empty, an empty line before the last.
+        // A line does not follow, the last line is not empty, or an empty line is not the last.
         (&[OUT_OF_TURN, THE_END], FIRST),
         (&[THE_END], FIRST),
         (&[NOT_ONE], FIRST),
@@ -121,7 +122,7 @@ fn faults_of_logs_from_outside(rt: HostRuntime) -> Result<(), Fail> {
     for (lines, want) in CASES {
         assert_eq!(rt; outside_fault(rt.alloc(), log(rt.alloc(), lines)?)?, *want);
     }
-    // One line more than a proof from outside may have; with one less, the first of them does not follow.
+    // An outside log has at most 1,000,000 lines. With that many, the first one does not follow.
     for (count, want) in [(1_000_001, COUNT), (1_000_000, FIRST)] {
         let mut lines = Lines::new(rt.alloc());
         for _ in 0..count {
@@ -139,7 +140,7 @@ fn faults_of_fits(rt: HostRuntime) -> Result<(), Fail> {
         (&[(3, 15), (4, 14)], Place::Station(4)),
         (&[(3, 16)], Place::Station(3)),
         (&[(3, 15)], Place::PairOf(apart(1, 3, 15))),
-        // A station missing and one too many; a station off its domain and a pair.
+        // Two errors each: station 3 is missing and 4 is not tested; station 1 is off its domain and a pair is violated.
         (&[(4, 14)], Place::Station(3)),
         (&[(1, 16), (3, 14)], Place::Station(1)),
     ];
@@ -153,10 +154,10 @@ fn faults_of_fits(rt: HostRuntime) -> Result<(), Fail> {
 #[test]
 fn first_of_two_faults(rt: HostRuntime) -> Result<(), Fail> {
     const CASES: &[(u32, &[u32], &[Text], Option<Place>)] = &[
-        // Too many lines, over no subset; over no subset, a line that does not follow.
+        // Too many lines and an invalid subset; then an invalid subset and a line that does not follow.
         (1, &[4, 5], &[OUT_OF_TURN, THE_END], Some(Place::Count)),
         (2, &[4, 5], &[OUT_OF_TURN, THE_END], Some(Place::Subset)),
-        // A line that does not follow, and behind it an empty one before the last; and the other way round.
+        // A line that does not follow and an empty line that is not the last, in both orders.
         (3, ALL, &[OUT_OF_TURN, EMPTY_AGAIN, NOT_ONE], FIRST),
         (3, ALL, &[NOT_ONE, THE_END, OUT_OF_TURN], SECOND),
     ];
@@ -164,14 +165,14 @@ fn first_of_two_faults(rt: HostRuntime) -> Result<(), Fail> {
     Ok(())
 }
 
-// Where an answer of a walker to the test of the first three stations, while none has a channel, is at fault.
+// Returns the place of the first error of a walker's answer to the test of stations 1 to 3, with an empty last map.
 fn walkers_fault(alloc: Global, budget: u32, answer: Answer) -> Result<Option<Place>, NoMemory> {
     let book = four_stations(alloc)?;
     let task = task(alloc, &[1, 2, 3], &[])?;
     place(certify(alloc, &book, &task, &walker(budget), answer))
 }
 
-// The first of these walks that is not at fault where it should be, by its place from 0.
+// Returns the index of the first case whose walk has another result than expected.
 fn wrong_walk(
     alloc: Global,
     cases: &[(u32, &[(u32, u8)], Option<Place>)],
@@ -187,28 +188,28 @@ fn wrong_walk(
 #[test]
 fn faults_of_walks(rt: HostRuntime) -> Result<(), Fail> {
     const CASES: &[(u32, &[(u32, u8)], Option<Place>)] = &[
-        // From 1, 2 and 3 on 14: 2 and 3 stay on one channel, and then 1 and 2.
+        // Valid walks from 1, 2 and 3 on 14. First 2 and 3 still share a channel, then 1 and 2 do.
         (1, &[(1, 15)], None),
         (2, &[(1, 15), (2, 15)], None),
-        // The number of moves.
+        // The number of moves differs from the budget.
         (1, &[], COUNT),
         (2, &[(1, 15)], COUNT),
         (1, &[(1, 15), (2, 15)], COUNT),
-        // A move onto its own channel, off the domain, and of stations in no violated pair.
+        // A move to the station's own channel, to one off its domain, or of a station in no violated pair.
         (1, &[(1, 14)], Some(Place::MoveAt(1))),
         (1, &[(1, 16)], Some(Place::MoveAt(1))),
         (1, &[(4, 15)], Some(Place::MoveAt(1))),
         (1, &[(9, 15)], Some(Place::MoveAt(1))),
         (2, &[(1, 15), (1, 14)], Some(Place::MoveAt(2))),
         (3, &[(1, 15), (2, 15), (3, 15)], Some(Place::MoveAt(3))),
-        // The first of two.
+        // Both moves are invalid; the first is reported.
         (2, &[(1, 16), (2, 14)], Some(Place::MoveAt(1))),
     ];
     assert_eq!(rt; wrong_walk(rt.alloc(), CASES)?, None);
     Ok(())
 }
 
-// Where one move of two stations from these channels is at fault.
+// Returns the place of the first error of a walk of one move over stations 1 and 2, from this last map.
 fn move_fault(alloc: Global, last: &[(u32, u8)], x: (u32, u8)) -> Result<Option<Place>, NoMemory> {
     let book = four_stations(alloc)?;
     let task = task(alloc, &[1, 2], last)?;
@@ -219,7 +220,7 @@ fn move_fault(alloc: Global, last: &[(u32, u8)], x: (u32, u8)) -> Result<Option<
 #[test]
 fn last_map_without_violations(rt: HostRuntime) -> Result<(), Fail> {
     let first = Some(Place::MoveAt(1));
-    // From 1 and 2 on 14, 1 moves away; and it is away at the start.
+    // The first walk leaves no violation; the second starts without one.
     assert_eq!(rt; move_fault(rt.alloc(), &[], (1, 15))?, first);
     assert_eq!(rt;
         move_fault(rt.alloc(), &[(1, 15), (2, 14)], (1, 14))?,
@@ -228,7 +229,7 @@ fn last_map_without_violations(rt: HostRuntime) -> Result<(), Fail> {
     Ok(())
 }
 
-// Whether a walk over stations 1, 2 and 9, which has no channel, starts from these entries.
+// Checks whether a walk over stations 1, 2 and 9 starts from these entries. Station 9 has no channel.
 fn starts_from(alloc: Global, last: &[(u32, u8)], entries: &[(u32, u8)]) -> Result<bool, NoMemory> {
     let book = four_stations(alloc)?;
     let task = task(alloc, &[1, 2, 9], last)?;
@@ -242,7 +243,7 @@ fn start_map_of_a_task(rt: HostRuntime) -> Result<(), Fail> {
     Ok(())
 }
 
-// Whether moves of a learner, and a receipt of lines and a proof of a walker, are of the other kind.
+// Checks whether moves of a learner, and lines and a proof of a walker, are all rejected as the wrong kind.
 fn are_of_other_kind(alloc: Global, budget: u32) -> Result<bool, NoMemory> {
     let kind = Some(Place::Kind);
     let moves = fault(alloc, budget, walk(alloc, &[(3, 15)])?)?;
@@ -257,14 +258,14 @@ fn are_of_other_kind(alloc: Global, budget: u32) -> Result<bool, NoMemory> {
 
 #[test]
 fn answers_of_the_other_kind(rt: HostRuntime) -> Result<(), Fail> {
-    // 1 is the number of the moves and of the receipt's lines, 2 that of the proof's, and 3 of none.
+    // The budget equals the number of moves or of receipt lines (1), of proof lines (2), or neither (3).
     assert!(rt; are_of_other_kind(rt.alloc(), 1)?);
     assert!(rt; are_of_other_kind(rt.alloc(), 2)?);
     assert!(rt; are_of_other_kind(rt.alloc(), 3)?);
     Ok(())
 }
 
-// Where a pair that is said to be dead, of the test of some of the crowded stations, is at fault.
+// Returns the place of the first error of a dead pair, for a test of some of the crowded stations.
 fn dead_fault(alloc: Global, set: &[u32], pair: Pair) -> Result<Option<Place>, NoMemory> {
     let book = crowded_stations(alloc)?;
     let task = task(alloc, set, &[])?;
@@ -286,7 +287,7 @@ fn faults_of_dead_pairs(rt: HostRuntime) -> Result<(), Fail> {
         dead_fault(alloc, &[2, 3], dead)?,
         Some(Place::PairOf(dead))
     );
-    // The first two are not the book's; a station of the last two has two channels.
+    // The first two pairs are not in the book; in the last two, station 3 has two channels.
     for pair in [
         apart(1, 4, 14),
         apart(2, 1, 14),

@@ -1,4 +1,4 @@
-//! Auctions in which the owners' lines stand in the place of values.
+//! Live auctions: the owners' answers decide in place of values.
 
 use crate::auctions::auctions::samples::{Crew, two_rounds};
 use crate::auctions::auctions::tests::{ALL_ON_AIR, BESIDE_SECOND, Came, Case, Want, ended};
@@ -14,7 +14,7 @@ use pack_defs::scenario::Scenario;
 use std::alloc::{AllocError as NoMemory, Global};
 use std::test::Fail;
 
-// What the live auction of a scenario and a book came to, whose owners say these lines.
+// Plays the live auction of a scenario and a book with these owners, and returns how it ended.
 fn played_live(
     alloc: Global,
     sc: &Scenario,
@@ -27,14 +27,14 @@ fn played_live(
     ended(alloc, auction, live, cases)
 }
 
-// The same of three stations without values.
+// Plays the live auction of three stations without values.
 fn of_three(alloc: Global, owners: &Owners, cases: &[Case]) -> Result<Option<Came>, NoMemory> {
     let sc = two_rounds(alloc, ALL_ON_AIR, Crew::Learner)?;
     played_live(alloc, &sc, &three_stations(alloc)?, owners, cases)
 }
 
 const LIVE: &[(SaidLines, &[Case], Came)] = &[
-    // Station 2 leaves in round 1 and station 1 in round 2, and station 3 never, so it is frozen at 60 cents.
+    // Station 2 leaves in round 1 and station 1 in round 2. Station 3 never leaves, so it is frozen at 60 cents.
     (
         AS_BID,
         &[
@@ -46,7 +46,7 @@ const LIVE: &[(SaidLines, &[Case], Came)] = &[
         ],
         ((Ending::Done, 6, 5, 60), 0, false, Some(15)),
     ),
-    // Without its line for the opening station 2 is on air from the start.
+    // Station 2 has no answer to the opening offer, so it is on air from the start.
     (
         SECOND_DECLINES,
         BESIDE_SECOND,

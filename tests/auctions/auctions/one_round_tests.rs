@@ -1,4 +1,4 @@
-//! Auctions of one round: tests that no query asks, and the order of the others.
+//! Auctions of one round: tests settled without a query, and the order of the queries.
 
 use crate::auctions::auctions::samples::one_round;
 use crate::auctions::auctions::tests::{Came, Case, End, Want, played};
@@ -17,12 +17,12 @@ use std::test::Fail;
 // An auction of one round.
 #[derive(Clone, Copy)]
 enum Scene {
-    // Two stations start on air on the one channel 14.
+    // Two stations start on air on channel 14, their only channel.
     DeadPair,
-    // A station without a channel, of this value.
+    // One station with this value and without a channel.
     NoChannel(u8),
     NoStation,
-    // Five stations, of which the third alone has a channel.
+    // Five stations; only the third has a channel.
     ThirdOfFive,
 }
 
@@ -44,7 +44,7 @@ fn no_station(alloc: Global, cases: &[Case]) -> Result<Option<Came>, NoMemory> {
     played(alloc, sc, &none, Order::ByFacility, cases)
 }
 
-// The same bid of stations 1 to 5.
+// Returns a scenario with the same bid of stations 1 to 5.
 fn five_bids(alloc: Global) -> Result<Scenario, NoMemory> {
     let v = Some(5);
     let bids = vec![in alloc;
@@ -85,11 +85,11 @@ const ONE_ROUND: &[(Scene, &[Case], End)] = &[
         &[(0, 1, Given::Dead(DEAD), Want::Last)],
         (Ending::StartRefuted, 2, 0, 0),
     ),
-    // It starts on air, or it is asked.
+    // Without a channel, a station on air at the start refutes the start, and a station in the clock is frozen.
     (Scene::NoChannel(101), &[], (Ending::StartRefuted, 1, 0, 0)),
     (Scene::NoChannel(5), &[], (Ending::Done, 1, 1, 100)),
     (Scene::NoStation, &[], (Ending::Done, 1, 0, 0)),
-    // The tests before its query and behind it are settled in a row.
+    // The tests before and after the query are settled without a query.
     (
         Scene::ThirdOfFive,
         &[(0, 1, Given::Fit(3, 14), Want::Last)],
@@ -106,12 +106,12 @@ fn tests_without_a_query(rt: HostRuntime) -> Result<(), Fail> {
     Ok(())
 }
 
-// A station of a volume of one more than this, which stays in the clock.
+// Returns a station with a volume of `volume` plus one and a low value.
 fn of_volume(id: u32, volume: u8) -> Station {
     bid(id, u32::from(volume) + 1, Some(5))
 }
 
-// Stations 1 to 3 of such volumes.
+// Returns a scenario of stations 1 to 3 with these volumes, each plus one.
 fn of_volumes(alloc: Global, volumes: (u8, u8, u8)) -> Result<Scenario, NoMemory> {
     let first = of_volume(1, volumes.0);
     let second = of_volume(2, volumes.1);
@@ -119,7 +119,7 @@ fn of_volumes(alloc: Global, volumes: (u8, u8, u8)) -> Result<Scenario, NoMemory
     one_round(alloc, vec![in alloc; first, second, third]?)
 }
 
-// Three stations on one channel, which do not interfere.
+// Returns a book of three stations on one channel that do not interfere.
 fn three_apart(alloc: Global) -> Result<Book, NoMemory> {
     let domains = [
         on(alloc, 1, &[14])?,
@@ -138,8 +138,8 @@ fn by_volumes(
     played(alloc, sc, &three_apart(alloc)?, Order::ByVolume, cases)
 }
 
-// Volumes, and the answers to a round's tests. Each station has a channel for itself, so that a fit for another one than is
-// tested is not taken. The greater volume comes first, and of equal ones the lesser facility.
+// Volumes, and the answers to the tests of one round. Greater volumes come first, then smaller facility numbers. In another order an answer
+// would fit the wrong station and be rejected.
 const IN_TURN: &[((u8, u8, u8), &[Case])] = &[
     (
         (4, 4, 4),

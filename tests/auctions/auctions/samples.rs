@@ -1,4 +1,4 @@
-//! Scenarios of two rounds and of one, and their workers.
+//! Scenarios of one and two rounds, and their workers.
 
 use crate::samples::scenarios::{auction_of, bid};
 use crate::samples::workers::{learner, walker};
@@ -9,7 +9,7 @@ use pack_defs::station::Station;
 use pack_defs::worker::Worker;
 use std::alloc::{AllocError as NoMemory, Global};
 
-// The workers of an auction, each of a budget of 1 where it is short, and of 1000 where it isn't.
+// The workers of an auction. A short one has a budget of 1, any other 1000.
 #[derive(Clone, Copy)]
 pub(crate) enum Crew {
     Learner,
@@ -29,7 +29,7 @@ fn workers_of(alloc: Global, crew: Crew) -> Result<Vec<Worker>, NoMemory> {
     }
 }
 
-// What stations 1 to 3 are worth in cents. One without a value starts on air.
+// The values of stations 1 to 3 in cents. A station without a value starts on air.
 pub(crate) type Values = (Option<u8>, Option<u8>, Option<u8>);
 
 fn cents(value: Option<u8>) -> Option<u64> {
@@ -39,7 +39,7 @@ fn cents(value: Option<u8>) -> Option<u64> {
     Some(u64::from(cents))
 }
 
-// Stations 1 to 3 with these values, asked in two rounds below 100 cents.
+// Returns a scenario of stations 1 to 3 with these values. The price falls twice from 100 cents.
 pub(crate) fn two_rounds(
     alloc: Global,
     values: Values,
@@ -54,7 +54,7 @@ pub(crate) fn two_rounds(
     auction_of(alloc, stations, workers)
 }
 
-// These stations, asked once at 100 cents, by one worker.
+// Returns a scenario of one round at 100 cents with one worker.
 pub(crate) fn one_round(alloc: Global, stations: Vec<Station>) -> Result<Scenario, NoMemory> {
     Ok(Scenario {
         version: 1,

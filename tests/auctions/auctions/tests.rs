@@ -1,4 +1,4 @@
-//! Auctions driven by postings: what each is told, and what the auction came to.
+//! Auctions driven by postings: the reply to each posting, and how the auction ends.
 
 use crate::auctions::auctions::samples::{Crew, Values, two_rounds};
 use crate::samples::answers::Given;
@@ -15,14 +15,14 @@ use pack_defs::scenario::Scenario;
 use std::alloc::{AllocError as NoMemory, Global};
 use std::test::Fail;
 
-// What a posting is to be told.
+// The expected reply to a posting.
 #[derive(Clone, Copy)]
 pub(crate) enum Want {
     // The query is settled, and the next one has this number.
     Next(u64),
-    // It is settled, and was the last.
+    // The query is settled, and was the last.
     Last,
-    // Another query stands, of this number.
+    // Another query is current, with this number.
     Wrong(u64),
     Noted,
     Again,
@@ -44,10 +44,10 @@ fn reply(want: Want) -> Reply {
     }
 }
 
-// A posting of a worker for a query, and what it is to be told.
+// The worker and the query of a posting, its answer, and the expected reply.
 pub(crate) type Case = (u32, u64, Given, Want);
 
-// Posts these one after another, and says whether each is told what it is to be.
+// Posts these cases in order. Returns whether each gets its expected reply.
 pub(crate) fn are_told(
     alloc: Global,
     auction: &mut Auction,
@@ -61,11 +61,11 @@ pub(crate) fn are_told(
     Ok(true)
 }
 
-// An auction's end: how it ended, the number past its last query's, how many steps it took, and its total in cents.
+// The end of an auction: the ending, the last query's number plus one, the number of steps, and the total in cents.
 pub(crate) type End = (Ending, u64, usize, u64);
 
-// And more of its record: how many tests were like the one before, whether the last was shown undecided, and the channel of
-// station 1.
+// The end of an auction and more of its record: how many steps are `Shown::Same`, whether the last one is undecided, and station 1's
+// channel.
 pub(crate) type Came = (End, usize, bool, Option<u8>);
 
 pub(crate) fn came(left: &Record, number: u64) -> Came {
@@ -74,7 +74,7 @@ pub(crate) fn came(left: &Record, number: u64) -> Came {
     (end, same(steps), is_left_open(steps), left.map.get(1))
 }
 
-// How many of these steps are like the ones before.
+// Counts the steps that are settled as the one before.
 fn same(steps: &[Step]) -> usize {
     let mut count: usize = 0;
     for step in steps {
@@ -96,7 +96,7 @@ fn is_left_open(steps: &[Step]) -> bool {
     matches!(step.shown, Shown::Undecided(_))
 }
 
-// What an auction of this scenario came to with these postings; nothing where one is told otherwise, or where it does not end.
+// Returns how the auction ended after these postings. Returns `None` if a reply is not the expected one, or if the auction did not end.
 pub(crate) fn ended(
     alloc: Global,
     auction: Auction,
@@ -112,7 +112,7 @@ pub(crate) fn ended(
     Ok(Some(came(&record, number)))
 }
 
-// The same of the auction of a scenario and a book from its start.
+// Plays the auction of a scenario and a book from its start.
 pub(crate) fn played(
     alloc: Global,
     sc: Scenario,
@@ -124,7 +124,7 @@ pub(crate) fn played(
     ended(alloc, auction, sc, cases)
 }
 
-// What an auction of three stations and two rounds came to.
+// Plays an auction of three stations and two rounds.
 fn in_two_rounds(
     alloc: Global,
     values: Values,
@@ -135,7 +135,7 @@ fn in_two_rounds(
     played(alloc, sc, &three_stations(alloc)?, Order::ByFacility, cases)
 }
 
-// The pair of two stations that a walk says is dead, though the book has no such.
+// A pair that is not in the book, for a false claim that it is dead.
 const STRAY: Pair = Pair {
     f: 1,
     a: 14,
@@ -148,8 +148,7 @@ const ALL_ASKED: Values = (Some(50), Some(70), Some(10));
 pub(crate) const ALL_ON_AIR: Values = (None, None, None);
 
 const TWO_ROUNDS: &[(Values, Crew, &[Case], Came)] = &[
-    // An old answer. The queries are of stations 1, 2 and 3 in round 1, and of 1 and 3 in round 2, where 3 is frozen at 60
-    // cents.
+    // An answer to an old query. The queries are stations 1, 2 and 3 in round 1, then 1 and 3 in round 2, where 3 is frozen at 60 cents.
     (
         ALL_ASKED,
         Crew::Learner,
@@ -165,7 +164,7 @@ const TWO_ROUNDS: &[(Values, Crew, &[Case], Came)] = &[
         ],
         ((Ending::Done, 6, 5, 60), 0, false, Some(15)),
     ),
-    // Each reply. Two workers of budget 1: the last test is settled once both have spent it.
+    // Every reply. With two workers of budget 1, the last test is settled once both have spent their budgets.
     (
         ALL_ASKED,
         Crew::ShortLearners,
@@ -185,8 +184,8 @@ const TWO_ROUNDS: &[(Values, Crew, &[Case], Came)] = &[
         ],
         ((Ending::Done, 6, 5, 60), 0, true, Some(15)),
     ),
-    // A worker that learns lines and one that walks, both of budget 1: neither may spend it as the other does. In round 2,
-    // with 1 on 15 and 2 on 14, a walk starts with 3 on 14, and is none the better off with 3 on 15.
+    // A learner and a walker, both of budget 1; neither may spend it as the other does. In round 2, with 1 on 15 and 2 on 14, a walk starts
+    // with 3 on 14. Moving 3 to 15 leaves a violation.
     (
         ALL_ASKED,
         Crew::ShortLearnerAndWalker,
@@ -203,7 +202,7 @@ const TWO_ROUNDS: &[(Values, Crew, &[Case], Came)] = &[
         ],
         ((Ending::Done, 6, 5, 60), 0, true, Some(15)),
     ),
-    // Starts that end an auction: by a refutation, or by the receipt of the only worker.
+    // The test of the start ends the auction: by a refutation, or by the only worker's receipt.
     (
         ALL_ON_AIR,
         Crew::Learner,
@@ -216,17 +215,17 @@ const TWO_ROUNDS: &[(Values, Crew, &[Case], Came)] = &[
         &[(0, 1, Given::Spent, Want::Last)],
         ((Ending::StartUndecided, 2, 0, 0), 0, false, None),
     ),
-    // Tests like the one before. Station 2 is on air from the start; stations 1 and 3 are tested in three rounds, and with all
-    // three on air there is a channel too few. At 50 cents station 1 goes on air in round 2, and the second test of station 3
-    // asks about all three: it is frozen at 60 cents.
+    // Tests settled as the one before. Station 2 is on air from the start. Stations 1 and 3 are tested, and the three together lack a
+    // channel. With a value of 50 cents, station 1 goes on air in round 2. The second test of station 3 then asks about all three stations,
+    // and station 3 is frozen at 60 cents.
     (
         (Some(50), None, Some(10)),
         Crew::Learner,
         BESIDE_SECOND,
         ((Ending::Done, 5, 4, 60), 1, false, Some(15)),
     ),
-    // At 10 cents the tests of round 2 are both like those before, and so is the last of station 1: the third answer settles
-    // them all, and station 3 is frozen in round 3, at 20 cents. Either way station 1 has the channel of round 1.
+    // With a value of 10 cents, both tests of round 2 and the last test of station 1 are settled as the one before. Station 3 is frozen in
+    // round 3, at 20 cents. In both cases station 1 has the channel of round 1.
     (
         (Some(10), None, Some(10)),
         Crew::Learner,
@@ -251,10 +250,10 @@ fn postings_are_told_what_they_do(rt: HostRuntime) -> Result<(), Fail> {
     Ok(())
 }
 
-// Which of workers 0, 1 and 7 are noted, whether the auction has ended, and how many postings there were.
+// Whether a receipt of worker 0, 1 and 7 is noted, whether the auction has ended, and how many postings were made.
 type Standing = ((bool, bool, bool), bool, u64);
 
-// How an auction stands after these postings; nothing where one is told otherwise.
+// Returns the state of an auction after these postings, or `None` if a reply is not the expected one.
 fn stands(alloc: Global, auction: Auction, cases: &[Case]) -> Result<Option<Standing>, NoMemory> {
     let mut auction = auction;
     if !are_told(alloc, &mut auction, cases)? {
@@ -264,7 +263,7 @@ fn stands(alloc: Global, auction: Auction, cases: &[Case]) -> Result<Option<Stan
     Ok(Some((noted, auction.ended(), auction.posted())))
 }
 
-// The same of one whose stations all start on air, with a learner of budget 1 and one of a greater.
+// Returns the state of an auction whose stations all start on air. One learner has a budget of 1, the other 1000.
 fn standing(alloc: Global, cases: &[Case]) -> Result<Option<Standing>, NoMemory> {
     let sc = two_rounds(alloc, ALL_ON_AIR, Crew::ShortAndLong)?;
     let book = three_stations(alloc)?;
@@ -272,7 +271,7 @@ fn standing(alloc: Global, cases: &[Case]) -> Result<Option<Standing>, NoMemory>
     stands(alloc, auction, cases)
 }
 
-// A receipt is noted for its worker alone, and let go once another's answer settles the query.
+// A receipt is noted for its own worker only, and dropped once another worker's answer settles the query.
 #[test]
 fn a_noted_receipt(rt: HostRuntime) -> Result<(), Fail> {
     const ROWS: &[(&[Case], Standing)] = &[

@@ -1,4 +1,4 @@
-//! Tests of the plain rule and of what is paid.
+//! Tests of `wins_at`: a station wins with each value up to its payment, and loses above it.
 
 use crate::samples::books::{all_apart, on};
 use pack_defs::book::Book;
@@ -11,7 +11,7 @@ use std::alloc::{AllocError as NoMemory, Global};
 use std::test::Fail;
 use threshold_laws::wins::wins_at;
 
-// Three stations on channels 14 to 16 up to the top one, of which no two may share 14 or 15.
+// Returns a book of three stations on channels 14 to 16, limited to the top channel. No two of them may share 14 or 15.
 fn book_up_to(alloc: Global, top: u8) -> Result<Book, NoMemory> {
     let domains = [
         on(alloc, 1, &[14, 15, 16])?,
@@ -22,7 +22,7 @@ fn book_up_to(alloc: Global, top: u8) -> Result<Book, NoMemory> {
     Book::build(alloc, top, &[1, 2, 3], &domains, &pairs)
 }
 
-// A station of this number, with this volume and value.
+// Returns a station with this volume and value.
 fn station(id: u32, bid: (u32, u64)) -> Station {
     let (volume, value) = bid;
     Station {
@@ -32,7 +32,7 @@ fn station(id: u32, bid: (u32, u64)) -> Station {
     }
 }
 
-// One to three stations, numbered from 1, with these volumes and values.
+// Returns one to three stations, numbered from 1, with these volumes and values.
 fn stations(alloc: Global, bids: &[(u32, u64)]) -> Result<Vec<Station>, NoMemory> {
     match bids {
         [only] => Ok(vec![in alloc; station(1, *only)]?),
@@ -60,7 +60,7 @@ fn fall(alloc: Global, falls: Falls) -> Result<Fall, NoMemory> {
     }
 }
 
-// An auction of these stations, opening at 100 cents.
+// Returns an auction of these stations that opens at 100 cents.
 fn scenario(alloc: Global, falls: Falls, bids: &[(u32, u64)]) -> Result<Scenario, NoMemory> {
     Ok(Scenario {
         version: 1,
@@ -73,10 +73,10 @@ fn scenario(alloc: Global, falls: Falls, bids: &[(u32, u64)]) -> Result<Scenario
     })
 }
 
-// An auction: the top channel, how the price falls, the order of a round, and the volumes and values of its stations.
+// An auction: the top channel, the price falls, the order within a round, and the volumes and values of the stations.
 type Auction = (u8, Falls, Order, &'static [(u32, u64)]);
 
-// The first of these values at which the answer for the station isn't this one.
+// Returns the first value for which `wins_at` does not answer `won`.
 fn first_other(
     alloc: Global,
     auction: Auction,
@@ -95,17 +95,17 @@ fn first_other(
     Ok(None)
 }
 
-// A station of an auction, with values at which it is bought and values at which it isn't: its offer of each round, and
-// one cent below and above it.
+// A station of an auction, with values for which it is bought and values for which it is not. The values are around the offers of each
+// round, and one cent below and above.
 const ROWS: &[(Auction, u32, &[u64], &[u64])] = &[
-    // A station alone that has no channel.
+    // A lone station without a channel.
     (
         (13, Falls::By(&[]), Order::ByFacility, &[(1, 5)]),
         1,
         &[99, 100],
         &[101],
     ),
-    // One round, in which two of the three fit.
+    // One round, in which two of the three stations fit.
     (
         (
             15,

@@ -1,4 +1,4 @@
-//! What a batch is given, the run, and what it leaves.
+//! The input of a batch, its run, and the facts that the run leaves.
 
 use crate::scenes::change::Change;
 use crate::scenes::named::{named_folder, named_text};
@@ -10,13 +10,13 @@ use std::alloc::{AllocError as NoMemory, Global};
 use std::sync::Wait;
 use std::thread::Threads;
 
-/// The words of a batch over the list.
+/// The command line of a batch over the list `l.csv`.
 pub const BATCH: &str = "repack batch d.csv r.csv l.csv";
 
-// The files that a row may have results stored in.
+// The files in which a row may store results.
 const RESULTS: &[&str] = &["1.csv", "2.csv", "3.csv", "4.csv", "5.csv", "20.csv"];
 
-// What the files of the results hold.
+// Returns the contents of the result files.
 fn results_text(alloc: Global, folder: &MemoryFolder) -> Result<String, NoMemory> {
     let mut facts = String::from_str(alloc, "results")?;
     for name in RESULTS {
@@ -27,7 +27,7 @@ fn results_text(alloc: Global, folder: &MemoryFolder) -> Result<String, NoMemory
     Ok(facts)
 }
 
-// Runs these words over this list, and tells the facts of what is left, with "; " between each two.
+// Runs this command line over this list. Returns the facts that are left, separated by "; ".
 fn run<W: Threads + Wait + Sync>(
     rt: &W,
     alloc: Global,
@@ -42,7 +42,7 @@ fn run<W: Threads + Wait + Sync>(
     format!(in alloc; "{left}; {results}; {inputs}")
 }
 
-/// Whether the run of these words over this list leaves what these facts say.
+/// Checks whether the run of this command line over this list leaves these facts.
 pub fn leaves<W: Threads + Wait + Sync>(
     rt: &W,
     alloc: Global,
@@ -55,7 +55,7 @@ pub fn leaves<W: Threads + Wait + Sync>(
     Ok(are_among(facts, &told))
 }
 
-/// The facts of the first row that says of a batch's facts one that isn't so.
+/// Returns the facts of the first row that a batch does not leave.
 pub fn first_untrue<'a, W: Threads + Wait + Sync>(
     rt: &W,
     alloc: Global,

@@ -1,24 +1,24 @@
-//! What a batch leaves.
+//! What a batch prints and stores.
 
 use super::scene::{BATCH, first_untrue, leaves};
 use crate::scenes::change::Change;
 use std::alloc::{AllocError as NoMemory, Global};
 use std::test::Fail;
 
-// Batches that are carried out.
+// Batches that run to the end.
 const DONE: &[(&str, Change<'static>, &str)] = &[
     (
         "plain,1.csv\nhigh,3.csv\n",
         Change::Nothing,
         "status 0; said: plain 0\nhigh 0\n; records: done, done; 1.csv: facility,outcome,round,price\n1,exit,2,0\n2,exit,1,0\n3,frozen,2,60\n; no 2.csv; 3.csv: facility,outcome,round,price\n1,exit,2,0\n2,start,0,0\n3,frozen,2,60\n; inputs kept; no record",
     ),
-    // With one channel, station 3 is frozen at the first test of it, and station 1 once station 2 is on air.
+    // With one channel, station 3 is frozen at its first test, and station 1 once station 2 is on air.
     (
         " low , 1.csv \n\nplain,2.csv,,\nlow,3.csv\n",
         Change::Nothing,
         "status 0; said: low 0\nplain 0\nlow 0\n; records: done, done, done; 1.csv: facility,outcome,round,price\n1,frozen,2,60\n2,exit,1,0\n3,frozen,1,100\n; 2.csv: facility,outcome,round,price\n1,exit,2,0\n2,exit,1,0\n3,frozen,2,60\n; 3.csv: facility,outcome,round,price\n1,frozen,2,60\n2,exit,1,0\n3,frozen,1,100\n",
     ),
-    // A refutation that another auction found is too long for the budget of one line.
+    // A refutation from another auction is too long for a budget of one line.
     (
         "plain,1.csv\nshort,2.csv\n",
         Change::Nothing,
@@ -29,7 +29,7 @@ const DONE: &[(&str, Change<'static>, &str)] = &[
         Change::Nothing,
         "status 11; said: unfit 6\nplain 0\nopen 7\nshort 1\n; records: start refuted, done, start open, done; no 1.csv; 2.csv: facility,outcome,round,price\n1,exit,2,0\n2,exit,1,0\n3,frozen,2,60\n; no 3.csv; 4.csv: facility,outcome,round,price\n1,exit,2,0\n2,exit,1,0\n3,undecided,2,60\n; inputs kept",
     ),
-    // The lines are one write.
+    // All lines are one write, so no second write can fail.
     (
         "plain,1.csv\nshort,2.csv\nopen,3.csv\n",
         Change::Write(2),
@@ -42,7 +42,7 @@ const DONE: &[(&str, Change<'static>, &str)] = &[
     ),
 ];
 
-// Batches whose reading stops.
+// Batches that stop with an error.
 const STOPPED: &[(&str, Change<'static>, &str)] = &[
     (
         "",
@@ -69,7 +69,7 @@ const STOPPED: &[(&str, Change<'static>, &str)] = &[
         Change::Nothing,
         "status 5; said: l.csv: given twice\n; no 1.csv",
     ),
-    // The third scenario of five is refused, and the next one isn't looked for.
+    // The third of five scenarios is rejected, and the fourth is not loaded.
     (
         "plain,1.csv\nhigh,2.csv\nbroken,3.csv\nmissing,4.csv\nplain,5.csv\n",
         Change::Nothing,
@@ -90,7 +90,7 @@ const STOPPED: &[(&str, Change<'static>, &str)] = &[
         Change::Missing("l.csv"),
         "status 3; said: cannot read l.csv\n; no 1.csv",
     ),
-    // The folder begins and hands out the domains and the rows, and then loads the list and the scenarios.
+    // A numbered call fails. The folder first reads the domains and the rows, then loads the list and the scenarios.
     (
         "plain,1.csv\nhigh,2.csv\n",
         Change::Call(4),
@@ -106,7 +106,7 @@ const STOPPED: &[(&str, Change<'static>, &str)] = &[
         Change::Call(9),
         "status 3; said: cannot read high\n; no 1.csv",
     ),
-    // A store fails, and then the write of the lines.
+    // A store fails; in the next row the write of the lines fails.
     (
         "plain,1.csv\nunfit,2.csv\nhigh,3.csv\n",
         Change::Call(12),
@@ -131,7 +131,7 @@ fn batches_stop(rt: HostRuntime) -> Result<(), Fail> {
     Ok(())
 }
 
-// A list with the same scenario so many times.
+// Returns a list that names the same scenario this many times.
 fn list_of(alloc: Global, count: u32) -> Result<String, NoMemory> {
     let mut list = String::new(alloc);
     for number in 1..=count {
@@ -141,7 +141,7 @@ fn list_of(alloc: Global, count: u32) -> Result<String, NoMemory> {
     Ok(list)
 }
 
-// The lines that are printed of them.
+// Returns the lines that the batch prints for `list_of`.
 fn lines_of(alloc: Global, count: u32) -> Result<String, NoMemory> {
     let mut lines = String::new(alloc);
     for _ in 0..count {

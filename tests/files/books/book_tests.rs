@@ -1,4 +1,4 @@
-//! What a book says of its stations, its pairs and neighbours.
+//! The stations, domains, pairs and neighbours of a book.
 
 use pack_defs::book::Book;
 use pack_defs::domain::Domain;
@@ -7,7 +7,7 @@ use pack_defs::pair::Pair;
 use std::alloc::{AllocError as NoMemory, Global};
 use std::test::Fail;
 
-// A station that may use channels 14 and 15.
+// Returns the domain of a station with channels 14 and 15.
 fn on_both(alloc: Global, station: u32) -> Result<Domain, NoMemory> {
     let channels = Items::from_vec(Vec::from_slice(alloc, &[14, 15])?);
     Ok(Domain { station, channels })
@@ -45,7 +45,7 @@ fn top_channel_cuts_domains_and_pairs(rt: HostRuntime) -> Result<(), Fail> {
     Ok(())
 }
 
-// Five stations on two channels, of which the last interferes with none.
+// Returns a book of five stations on two channels; the last one interferes with none.
 fn five_stations(alloc: Global) -> Result<Book, NoMemory> {
     let domains = [
         on_both(alloc, 10)?,
@@ -105,7 +105,7 @@ fn pairs_to_each_station(rt: HostRuntime) -> Result<(), Fail> {
     Ok(())
 }
 
-// Whether a station of the book and of its copy has just these neighbours.
+// Checks whether a station has exactly these neighbours, in the book and in its copy.
 fn has_neighbours(book: &Book, copy: &Book, station: u32, near: &[u32]) -> bool {
     book.neighbours(station) == near && copy.neighbours(station) == near
 }

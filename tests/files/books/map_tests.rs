@@ -1,4 +1,4 @@
-//! What a channel map says, and one that overwrites another.
+//! The entries of a channel map, and a map that overwrites another.
 
 use pack_defs::channel_map::ChannelMap;
 use std::test::Fail;

@@ -1,10 +1,10 @@
-//! Which lines of owners stand.
+//! The lines that `Owners` keeps, and its answers by round and station.
 
 use pack_defs::owners::{OwnerLine, Owners};
 use std::alloc::AllocError as NoMemory;
 use std::test::Fail;
 
-// What is said, line by line: round, station, whether it stays; and whether the line is new.
+// Owner lines: the round, the station, whether it stays, and whether the line is new.
 const SAID: &[(u32, u32, bool, bool)] = &[
     (1, 7, true, true),
     (0, 9, false, true),
@@ -14,7 +14,7 @@ const SAID: &[(u32, u32, bool, bool)] = &[
     (2, 3, true, true),
 ];
 
-// Round and station; whether a line stands for them, and whether it says stay.
+// A round, a station, whether the two have a line, and whether that line says that the station stays.
 const ASKED: &[(u32, u32, bool, bool)] = &[
     (0, 7, true, true),
     (0, 9, true, false),
@@ -25,7 +25,7 @@ const ASKED: &[(u32, u32, bool, bool)] = &[
     (7, 1, false, false),
 ];
 
-// Whether each line is added or refused as it is to be.
+// Checks whether every new line is added and every other one rejected.
 fn are_said(owners: &mut Owners) -> Result<bool, NoMemory> {
     for (round, station, stays, is_new) in SAID {
         let line = OwnerLine {
@@ -40,7 +40,7 @@ fn are_said(owners: &mut Owners) -> Result<bool, NoMemory> {
     Ok(true)
 }
 
-// Whether each round and station is answered as it is to be.
+// Checks the answer for each round and station.
 fn answers(owners: &Owners) -> bool {
     for (round, station, is_said, stays) in ASKED {
         if owners.is_said(*round, *station) != *is_said

@@ -1,4 +1,4 @@
-//! Texts of the two files that are read, and texts that are refused.
+//! Reading the domain file and the row file: accepted texts and rejected texts.
 
 mod domains;
 mod pairs;
@@ -13,7 +13,7 @@ use std::test::Fail;
 
 const THREE_STATIONS: &[u8] = b"DOMAIN,1,14,15\nDOMAIN,2,14,15\nDOMAIN,3,14,15\n";
 
-// Each station with its channels, as `1 14 15;2;`.
+// Returns the stations with their channels, as `1 14 15;2;`.
 fn domains_shown(alloc: Global, domains: &Domains) -> Result<String, AllocError> {
     let mut shown = String::new(alloc);
     for domain in domains.list() {
@@ -26,7 +26,7 @@ fn domains_shown(alloc: Global, domains: &Domains) -> Result<String, AllocError>
     Ok(shown)
 }
 
-// Each pair, as `1 on 14, 2 on 15;`.
+// Returns the pairs, as `1 on 14, 2 on 15;`.
 fn pairs_shown(alloc: Global, pairs: &Pairs) -> Result<String, AllocError> {
     let mut shown = String::new(alloc);
     for pair in pairs.list() {
@@ -36,7 +36,7 @@ fn pairs_shown(alloc: Global, pairs: &Pairs) -> Result<String, AllocError> {
     Ok(shown)
 }
 
-// Adds a field in brackets.
+// Appends a field in brackets.
 fn push_field(shown: &mut String, field: &[u8]) -> Result<(), AllocError> {
     shown.push('[')?;
     for byte in field {
@@ -45,7 +45,7 @@ fn push_field(shown: &mut String, field: &[u8]) -> Result<(), AllocError> {
     shown.push(']')
 }
 
-// Adds the fields of a record, and a semicolon.
+// Appends the fields of a record, and a semicolon.
 fn push_record(shown: &mut String, record: &[Vec<u8>]) -> Result<(), AllocError> {
     for field in record {
         push_field(shown, field)?;
@@ -53,7 +53,7 @@ fn push_record(shown: &mut String, record: &[Vec<u8>]) -> Result<(), AllocError>
     shown.push(';')
 }
 
-// The fields of the records of a line, each field in brackets, as `[CO][14];[CO];`.
+// Returns the fields of a line's records, each field in brackets, as `[CO][14];[CO];`.
 fn fields_shown(alloc: Global, line: &[u8]) -> Result<String, AllocError> {
     let mut shown = String::new(alloc);
     for record in &fields(alloc, line)? {
@@ -62,7 +62,7 @@ fn fields_shown(alloc: Global, line: &[u8]) -> Result<String, AllocError> {
     Ok(shown)
 }
 
-// The first of these fields that is read otherwise, by its place from 0.
+// Returns the index of the first field that is read as another number.
 fn first_number(cases: &[(&[u8], Option<u32>)]) -> Option<usize> {
     cases
         .iter()
@@ -90,7 +90,7 @@ fn numbers(rt: HostRuntime) {
     assert_eq!(rt; first_number(CASES), None);
 }
 
-// The first of these lines whose fields are shown otherwise, by what they are to be shown as.
+// Returns the expected text of the first line whose fields differ from it.
 fn first_fields<'a>(
     alloc: Global,
     cases: &[(&[u8], &'a str)],
@@ -136,17 +136,17 @@ fn fields_of_a_line(rt: HostRuntime) -> Result<(), Fail> {
     Ok(())
 }
 
-// The lengths in which each text is fed, beside the whole.
+// The lengths of the parts in which each text is fed, besides the complete text.
 const LENGTHS: &[usize] = &[1, 2, 5, 16, 1000];
 
-// A number that looks random, made from the one before by Knuth's multiplier.
+// Returns the next pseudorandom number (Knuth's multiplier).
 fn next(chance: u64) -> u64 {
     chance
         .wrapping_mul(6_364_136_223_846_793_005)
         .wrapping_add(1_442_695_040_888_963_407)
 }
 
-// A place up to the end of so many bytes, by chance.
+// Returns a pseudorandom place below `length`, or 0 if `length` is 0.
 fn place(chance: u64, length: usize) -> usize {
     if length == 0 {
         return 0;
@@ -154,7 +154,8 @@ fn place(chance: u64, length: usize) -> usize {
     (chance >> 33) as usize % length
 }
 
-// The domains of a text that is fed in parts of this length, each cut by chance into two pieces, of which one may be empty.
+// Reads the domains of a text in parts of this length. Each part is cut into two pieces at a pseudorandom place; the first piece may be
+// empty.
 fn fed_domains(alloc: Global, text: &[u8], length: usize) -> Result<Domains, ReadErr> {
     let mut reader = DomainReader::make(alloc)?;
     let mut chance = length as u64;
@@ -166,7 +167,7 @@ fn fed_domains(alloc: Global, text: &[u8], length: usize) -> Result<Domains, Rea
     reader.finish()
 }
 
-// The same of pairs over these domains.
+// Reads the pairs of a text over these domains, in the same parts and pieces.
 fn fed_pairs(
     alloc: Global,
     domains: &Domains,
@@ -183,7 +184,7 @@ fn fed_pairs(
     reader.finish()
 }
 
-// Whether these domains were read and are shown so.
+// Checks whether the domains were read and have this text.
 fn are_shown(
     alloc: Global,
     domains: Result<Domains, ReadErr>,
@@ -195,7 +196,7 @@ fn are_shown(
     Ok(domains_shown(alloc, &domains)?.as_str() == want)
 }
 
-// Whether the domains of the text are shown so, in one and in pieces.
+// Checks whether the domains of the text have this text, read at once and in pieces.
 fn domains_are(alloc: Global, text: &[u8], want: &str) -> Result<bool, AllocError> {
     for length in LENGTHS {
         if !are_shown(alloc, fed_domains(alloc, text, *length), want)? {
@@ -205,7 +206,7 @@ fn domains_are(alloc: Global, text: &[u8], want: &str) -> Result<bool, AllocErro
     are_shown(alloc, read_domains(alloc, text), want)
 }
 
-// The first of these texts whose domains are shown otherwise, by its place from 0.
+// Returns the index of the first text whose domains are others.
 fn first_domains(alloc: Global, cases: &[(&[u8], &str)]) -> Result<Option<usize>, AllocError> {
     for (i, (text, want)) in cases.iter().enumerate() {
         if !domains_are(alloc, text, want)? {
@@ -215,7 +216,7 @@ fn first_domains(alloc: Global, cases: &[(&[u8], &str)]) -> Result<Option<usize>
     Ok(None)
 }
 
-// Whether these pairs were read and are shown so, with so many of one station and so many strangers.
+// Checks whether the pairs were read and have this text and these counts.
 fn pairs_are(
     alloc: Global,
     pairs: Result<Pairs, ReadErr>,
@@ -232,7 +233,7 @@ fn pairs_are(
     Ok(pairs_shown(alloc, &pairs)?.as_str() == want)
 }
 
-// The same of the text, in one and in pieces.
+// Checks the same for a text, read at once and in pieces.
 fn pairs_are_always(
     alloc: Global,
     domains: &Domains,
@@ -251,7 +252,7 @@ fn pairs_are_always(
     pairs_are(alloc, pairs, want, self_pairs, strangers)
 }
 
-// The first of these texts whose pairs over these domains are shown otherwise, by its place from 0.
+// Returns the index of the first text whose pairs over these domains are others.
 fn first_pairs(
     alloc: Global,
     file: &[u8],
@@ -268,7 +269,7 @@ fn first_pairs(
     Ok(None)
 }
 
-// Whether station 2 of the text has the channels 14 and 15, and 4 no domain.
+// Checks whether station 2 of the text has the channels 14 and 15, and station 4 no domain.
 fn has_second(alloc: Global, text: &[u8]) -> bool {
     match read_domains(alloc, text) {
         Ok(domains) => {
@@ -278,7 +279,7 @@ fn has_second(alloc: Global, text: &[u8]) -> bool {
     }
 }
 
-// The first length from 1 to 45 in which the three stations are not read.
+// Returns the first part length from 1 to 45 for which the three stations are not read.
 fn first_length(alloc: Global, want: &str) -> Result<Option<usize>, AllocError> {
     for length in 1..=45 {
         if !are_shown(alloc, fed_domains(alloc, THREE_STATIONS, length), want)? {

@@ -1,4 +1,4 @@
-//! Tests of both folders and both sinks, each through its trait.
+//! Both folders and both sinks, each used through its trait.
 
 use outside_io::folder::{Folder, LoadErr, NewFile, PIECE_SIZE, StoreErr, Unstored};
 use outside_io::memory_folder::{MemoryFile, MemoryFolder};
@@ -10,7 +10,7 @@ use std::fs;
 use std::io::Write;
 use std::test::Fail;
 
-// Loads two files, the second only after the first.
+// Loads two files, the second only if the first succeeds.
 fn load_both<F: Folder>(
     folder: &mut F,
     first: &mut Vec<u8>,
@@ -20,7 +20,7 @@ fn load_both<F: Folder>(
     folder.load("rows", 9, second)
 }
 
-// A folder of two files.
+// Returns a folder of two files, in which these calls fail.
 fn folder_of_two(alloc: Global, failing: &[u64]) -> Result<MemoryFolder, NoMemory> {
     let mut files = Vec::new(alloc);
     files.push(MemoryFile::new(alloc, "domains", b"abc")?)?;
@@ -73,10 +73,10 @@ fn a_store_keeps_the_other_files(rt: HostRuntime) -> Result<(), Fail> {
     Ok(())
 }
 
-// What each call answers of a folder of two files, of which these calls are to fail. The calls, a letter each: `l` loads the
-// first file and `s` stores it anew; `b` begins it, `t` begins it with too low a limit, `e` begins the empty file and `a` one
-// that isn't there; `p` is a piece. The answers: how many bytes came, `W` for a whole piece and `r` for any other number, `-`
-// where none are asked, `F` for a failure, `T` for too long, and `?` for bytes left after an error.
+// Returns the answers of these calls on a folder of two files, in which the `failing` calls fail. Each call is a letter. `l` loads the
+// first file and `s` stores it again. `b` begins the first file, `t` begins it with too low a limit, `e` begins the empty file and `a`
+// begins a missing one. `p` reads a piece. An answer is the number of bytes, `W` for a full piece, or `r` for any other number. `-` means
+// success without bytes, `F` failed, `T` too long, and `?` bytes left after an error.
 fn answers(alloc: Global, failing: &[u64], calls: &str) -> Result<String, NoMemory> {
     let mut folder = folder_of_two(alloc, failing)?;
     let mut into = Vec::new(alloc);
@@ -140,10 +140,10 @@ fn all_calls_of_a_folder_are_counted_together(rt: HostRuntime) -> Result<(), Fai
         (&[3], "lbpps", "3-F0-"),
         (&[4], "lbpps", "3-3F-"),
         (&[5], "lbpps", "3-30F"),
-        // A store that fails leaves the file as it was.
+        // A failed store leaves the file unchanged.
         (&[4, 2], "lslsl", "3F3F3"),
         (&[2], "ll", "3F"),
-        // No file is begun.
+        // No file is begun, the file is empty, or the begin fails.
         (&[], "pp", "00"),
         (&[1], "pp", "F0"),
         (&[], "ep", "-0"),
@@ -151,7 +151,7 @@ fn all_calls_of_a_folder_are_counted_together(rt: HostRuntime) -> Result<(), Fai
         (&[], "ap", "F0"),
         (&[], "btp", "-T0"),
         (&[], "bap", "-F0"),
-        // A file that is begun anew, beside a load, and before it is stored.
+        // A file is begun twice, loaded while it is read, or stored after it is begun.
         (&[], "bpbp", "-3-3"),
         (&[], "ebpp", "--30"),
         (&[], "blpp", "-330"),
@@ -167,7 +167,7 @@ fn all_calls_of_a_folder_are_counted_together(rt: HostRuntime) -> Result<(), Fai
     Ok(())
 }
 
-// All bytes of a file, read in pieces.
+// Returns all bytes of a file, read in pieces.
 fn whole<F: Folder>(
     alloc: Global,
     folder: &mut F,
@@ -187,7 +187,7 @@ fn whole<F: Folder>(
     Err(LoadErr::TooLong)
 }
 
-// Whether a file comes in pieces of these sizes, and then ends.
+// Checks whether a file comes in pieces of these sizes, and then ends.
 fn comes_in<F: Folder>(
     alloc: Global,
     folder: &mut F,
@@ -206,7 +206,7 @@ fn comes_in<F: Folder>(
     Ok(piece.is_empty())
 }
 
-// So many bytes, no two parts of which are alike for long.
+// Returns this many bytes, with a period of 251 so that two pieces differ.
 fn counted(alloc: Global, length: usize) -> Result<Vec<u8>, NoMemory> {
     let mut bytes = Vec::new(alloc);
     for i in 0..length {
@@ -215,7 +215,7 @@ fn counted(alloc: Global, length: usize) -> Result<Vec<u8>, NoMemory> {
     Ok(bytes)
 }
 
-// Whether a file of so many bytes comes in pieces of these sizes, and whole.
+// Checks whether a file of this length comes in pieces of these sizes, and completely.
 fn comes_whole(alloc: Global, length: usize, sizes: &[usize]) -> Result<bool, NoMemory> {
     let bytes = counted(alloc, length)?;
     let mut files = Vec::new(alloc);
@@ -225,7 +225,7 @@ fn comes_whole(alloc: Global, length: usize, sizes: &[usize]) -> Result<bool, No
     Ok(sized && is_whole(alloc, &mut folder, "counted", &bytes))
 }
 
-// Whether all pieces of a file together are these bytes.
+// Checks whether all pieces of a file together are these bytes.
 fn is_whole<F: Folder>(alloc: Global, folder: &mut F, name: &str, bytes: &[u8]) -> bool {
     match whole(alloc, folder, name, bytes.len() as u64) {
         Ok(all) => all.as_slice() == bytes,
@@ -284,7 +284,7 @@ fn the_second_write_fails(rt: HostRuntime) -> Result<(), Fail> {
 
 #[test]
 fn the_system_gives_back_what_is_stored(rt: HostRuntime) -> Result<(), Fail> {
-    // More than one piece.
+    // More bytes than one piece holds.
     let bytes = counted(rt.alloc(), 70_000)?;
     let mut into = Vec::new(rt.alloc());
     let mut folder = RealFolder::new(&rt, rt.alloc());
@@ -308,7 +308,7 @@ fn the_system_gives_back_what_is_stored(rt: HostRuntime) -> Result<(), Fail> {
     Ok(())
 }
 
-// A file to store.
+// Returns a file to store.
 fn new<'a>(name: &'a str, bytes: &'a [u8]) -> NewFile<'a> {
     NewFile { name, bytes }
 }
@@ -354,7 +354,7 @@ fn the_system_stores_all_files_or_none(rt: HostRuntime) -> Result<(), Fail> {
     Ok(())
 }
 
-// What the beginning of a file answers, and then three pieces, in the same letters.
+// Begins a file and reads three pieces. Returns the answers in the letters of `answers`.
 fn begun_and_read<F: Folder>(
     alloc: Global,
     folder: &mut F,
@@ -396,7 +396,7 @@ fn the_system_gives_a_file_in_pieces(rt: HostRuntime) -> Result<(), Fail> {
     Ok(())
 }
 
-// A file that grows behind the limit once it is begun is too long at the piece that passes it.
+// A file that grows past its limit after it was begun is too long at the piece that passes the limit.
 #[test]
 fn the_system_gives_a_file_that_grows(rt: HostRuntime) -> Result<(), Fail> {
     let bytes = counted(rt.alloc(), 70_000)?;

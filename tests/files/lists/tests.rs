@@ -1,4 +1,4 @@
-//! Lists that are read, lists that are refused, and results whose names are given twice.
+//! Batch lists that are accepted or rejected, and results that a list names twice.
 
 use batch_list::error::ListErr;
 use batch_list::line::BatchLine;
@@ -7,7 +7,7 @@ use batch_list::repeated::first_repeated;
 use std::alloc::{AllocError, Global};
 use std::test::Fail;
 
-// The names of these lines, as `scenario>result;`.
+// Returns the names of these lines, as `scenario>result;`.
 fn shown(alloc: Global, lines: &[BatchLine]) -> Result<String, AllocError> {
     let mut shown = String::new(alloc);
     for line in lines {
@@ -19,7 +19,7 @@ fn shown(alloc: Global, lines: &[BatchLine]) -> Result<String, AllocError> {
     Ok(shown)
 }
 
-// What a list of these bytes is: its names, or `empty`, or the number of the line that is refused.
+// Returns the names of a list with these bytes, `empty`, or the number of the rejected line.
 fn told(alloc: Global, bytes: &[u8]) -> Result<String, AllocError> {
     match read_list(alloc, bytes) {
         Ok(lines) => shown(alloc, &lines),
@@ -29,7 +29,7 @@ fn told(alloc: Global, bytes: &[u8]) -> Result<String, AllocError> {
     }
 }
 
-// The first of these lists that is told otherwise, by what is to be told of it.
+// Returns the expected text of the first list with another outcome.
 fn first_told<'a>(
     alloc: Global,
     cases: &[(&[u8], &'a str)],
@@ -70,7 +70,7 @@ fn read_and_refused(rt: HostRuntime) -> Result<(), Fail> {
     Ok(())
 }
 
-// A list of so many records, a line each, of which the first is in line 1.
+// Returns a list of this many records, one in each line.
 fn list_of(alloc: Global, count: usize) -> Result<Vec<u8>, AllocError> {
     let mut bytes = Vec::new(alloc);
     for _ in 0..count {
@@ -79,7 +79,7 @@ fn list_of(alloc: Global, count: usize) -> Result<Vec<u8>, AllocError> {
     Ok(bytes)
 }
 
-// How many records a list of so many has, or the line that is refused.
+// Returns the number of records of a list of this many, or the rejected line.
 fn counted(alloc: Global, count: usize) -> Result<Result<usize, u64>, AllocError> {
     let bytes = list_of(alloc, count)?;
     match read_list(alloc, &bytes) {
@@ -96,10 +96,10 @@ fn as_many_as_fit(rt: HostRuntime) -> Result<(), Fail> {
     Ok(())
 }
 
-// The words of each list below.
+// The words of the command for each list below.
 const WORDS: &[&str] = &["batch", "domains", "rows", "domains"];
 
-// The result's name that is given twice in this list, as `none` where none is, or `refused`.
+// Returns the result name that this list gives twice, `none` if no name is repeated, or `refused`.
 fn repeated(alloc: Global, bytes: &[u8]) -> Result<String, AllocError> {
     match read_list(alloc, bytes) {
         Ok(lines) => String::from_str(alloc, first_repeated(WORDS, &lines).unwrap_or("none")),
@@ -107,7 +107,7 @@ fn repeated(alloc: Global, bytes: &[u8]) -> Result<String, AllocError> {
     }
 }
 
-// The first of these lists in which another name is found, by the one that is to be found.
+// Returns the expected name of the first list in which another one is found.
 fn first_found<'a>(
     alloc: Global,
     cases: &[(&[u8], &'a str)],

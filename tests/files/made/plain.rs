@@ -1,4 +1,4 @@
-//! A second, plain writing of the generator, for the tests: its own words by wrapping arithmetic, and its own texts.
+//! A second, plain implementation of the generator, for the tests. It has its own random words, by wrapping arithmetic, and its own texts.
 
 use std::alloc::{AllocError as NoMemory, Global};
 
@@ -25,7 +25,7 @@ impl Words {
     }
 }
 
-// The domain file.
+// Returns the domain file.
 pub(crate) fn domains(alloc: Global, size: u32) -> Result<String, NoMemory> {
     let mut text = String::new(alloc);
     for s in 1..=size {
@@ -34,7 +34,7 @@ pub(crate) fn domains(alloc: Global, size: u32) -> Result<String, NoMemory> {
     Ok(text)
 }
 
-// The stations of the scenario, as its file has them.
+// Returns the scenario's stations as in its file.
 fn stations(alloc: Global, words: &mut Words, size: u32) -> Result<String, NoMemory> {
     let mut text = String::new(alloc);
     for s in 1..=size {
@@ -48,12 +48,12 @@ fn stations(alloc: Global, words: &mut Words, size: u32) -> Result<String, NoMem
     Ok(text)
 }
 
-// Two stations are of one block.
+// Checks whether two stations are in the same block.
 fn share_block(station: u32, other: u32) -> bool {
     station > 0 && other > 0 && (station - 1) / 16 == (other - 1) / 16
 }
 
-// Those that a station interferes with on the same channel, each behind a comma.
+// Returns the later stations that a station interferes with on the same channel, each after a comma.
 fn links(alloc: Global, words: &mut Words, station: u32, size: u32) -> Result<String, NoMemory> {
     let mut text = String::new(alloc);
     for t in 1..=size {
@@ -64,7 +64,7 @@ fn links(alloc: Global, words: &mut Words, station: u32, size: u32) -> Result<St
     Ok(text)
 }
 
-// The lines of a station.
+// Returns the rows of a station.
 fn rows_of(alloc: Global, words: &mut Words, station: u32, size: u32) -> Result<String, NoMemory> {
     let mut text = String::new(alloc);
     let links = links(alloc, words, station, size)?;
@@ -83,7 +83,7 @@ fn rows_of(alloc: Global, words: &mut Words, station: u32, size: u32) -> Result<
     Ok(text)
 }
 
-// The row file and the scenario file, one behind the other.
+// Returns the row file followed by the scenario file.
 pub(crate) fn rows_and_scenario(alloc: Global, seed: u64, size: u32) -> Result<String, NoMemory> {
     let mut words = Words::new(seed);
     let stations = stations(alloc, &mut words, size)?;

@@ -1,11 +1,11 @@
-//! The files of some seeds and sizes: written out, as an independent program gave them, and beside a second writing.
+//! The generated files of some seeds and sizes equal texts from an independent program and those of a second implementation.
 
 use crate::files::made::plain::{domains, rows_and_scenario};
 use scenario_make::make::make;
 use std::alloc::{AllocError as NoMemory, Global};
 use std::test::Fail;
 
-// A seed and a size, the domain file, and the row file with the scenario file behind it.
+// A seed and a size, the domain file, and the row file followed by the scenario file.
 type Row = (u64, u32, &'static str, &'static str);
 
 const WRITTEN_OUT: &[Row] = &[
@@ -23,7 +23,7 @@ const WRITTEN_OUT: &[Row] = &[
     ),
 ];
 
-// Whether the files of a seed and a size are these: the domain file, and the row file with the scenario file behind it.
+// Checks whether the files of a seed and a size are these. `others` is the row file followed by the scenario file.
 fn are_made(
     alloc: Global,
     seed: u64,
@@ -40,7 +40,7 @@ fn are_made(
     Ok(made.domains.as_slice() == domains.as_bytes() && rows.as_slice() == others.as_bytes())
 }
 
-// The first row whose files are others.
+// Returns the seed and size of the first row whose files differ.
 fn first_other(alloc: Global, rows: &[Row]) -> Result<Option<(u64, u32)>, NoMemory> {
     for row in rows {
         let (seed, size, domains, others) = *row;
@@ -51,14 +51,14 @@ fn first_other(alloc: Global, rows: &[Row]) -> Result<Option<(u64, u32)>, NoMemo
     Ok(None)
 }
 
-// Whether the files of a seed and a size are those of the second writing.
+// Checks whether the files of a seed and a size are those of the second implementation.
 fn are_written_twice(alloc: Global, seed: u64, size: u32) -> Result<bool, NoMemory> {
     let domains = domains(alloc, size)?;
     let others = rows_and_scenario(alloc, seed, size)?;
     are_made(alloc, seed, size, domains.as_str(), others.as_str())
 }
 
-// The first seed and size whose two writings differ.
+// Returns the first seed and size for which the two implementations differ.
 fn first_unlike(alloc: Global, cases: &[(u64, u32)]) -> Result<Option<(u64, u32)>, NoMemory> {
     for case in cases {
         if !are_written_twice(alloc, case.0, case.1)? {

@@ -1,10 +1,11 @@
-//! Owners' files that are read, and files that are refused.
+//! Owners' files that are accepted or rejected.
 
 use owner_line::error::{OwnerErr, OwnerWhy};
 use owner_line::read::read_owners;
 use std::alloc::Global;
 
-// What a file says of a station in a round, for an auction of stations 1, 2 and 3 whose price falls twice.
+// Returns whether a file says that a station stays in a round, or `None` if the file is rejected. The auction has stations 1 to 3, and the
+// price falls twice.
 fn says(alloc: Global, bytes: &[u8], round: u32, station: u32) -> Option<bool> {
     match read_owners(alloc, bytes, 2, &[1, 2, 3]) {
         Ok(owners) => Some(owners.stays(round, station)),
@@ -12,7 +13,7 @@ fn says(alloc: Global, bytes: &[u8], round: u32, station: u32) -> Option<bool> {
     }
 }
 
-// How many lines a file gives the owners of the same auction.
+// Returns the number of owner lines of a file for the same auction.
 fn count(alloc: Global, bytes: &[u8]) -> Option<usize> {
     match read_owners(alloc, bytes, 2, &[1, 2, 3]) {
         Ok(owners) => Some(owners.lines().len()),
@@ -20,7 +21,7 @@ fn count(alloc: Global, bytes: &[u8]) -> Option<usize> {
     }
 }
 
-// Where and why the same auction refuses a file, if it does.
+// Returns the line and the cause for which a file is rejected for the same auction.
 fn refusal(alloc: Global, bytes: &[u8]) -> Option<(u64, OwnerWhy)> {
     match read_owners(alloc, bytes, 2, &[1, 2, 3]) {
         Err(OwnerErr::Row { line, why }) => Some((line, why)),
@@ -28,11 +29,11 @@ fn refusal(alloc: Global, bytes: &[u8]) -> Option<(u64, OwnerWhy)> {
     }
 }
 
-// Station 1 stays in every round; station 2 leaves after the first; of station 3 nothing is said. Blanks, empty fields at
-// the end, empty lines and leading zeros are nothing, and the last line needs no end.
+// Station 1 stays in every round, station 2 leaves after the first, and station 3 has no line. Blanks, empty fields at a line's end, empty
+// lines and leading zeros are ignored. The last line needs no line end.
 const SAID: &[u8] = b"0,1,stay\n 1 ,\t1,stay ,,\n\n2,01,stay\n1,2,leave\r\n ,\n0,2,\"stay\"";
 
-// Without a line a station leaves.
+// A station stays where its line says so, and leaves without a line.
 #[test]
 fn stays_and_leaves(rt: HostRuntime) {
     let cases: [(&[u8], u32, u32, bool); 9] = [
@@ -53,7 +54,7 @@ fn stays_and_leaves(rt: HostRuntime) {
     assert_eq!(rt; count(rt.alloc(), b""), Some(0));
 }
 
-// The first record with a fault, by its first fault.
+// A file is rejected at its first invalid record, for that record's first error.
 #[test]
 fn refused(rt: HostRuntime) {
     let cases: [(&[u8], u64, OwnerWhy); 14] = [

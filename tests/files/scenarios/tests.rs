@@ -1,4 +1,4 @@
-//! Texts that are read, texts that are refused, and texts that are written.
+//! Scenarios that are accepted, rejected and written.
 
 mod accepted;
 mod joined;
@@ -14,7 +14,7 @@ use scenario_json::name::Name;
 use scenario_json::scenario::read_scenario;
 use std::alloc::{AllocError as NoMemory, Global};
 
-// Three stations, two rounds with a decrement, one worker.
+// Three stations, two decrements and one worker.
 const TEXT: &str =
     r#"{"version":1,"top":15,"opening":100,"decrements":[40,40],"stations":[{"id":1,"volume":1,"value":50},{"id":2,"volume":1,"value":70},{"id":3,"volume":1,"value":10}],"workers":[{"kind":"cdcl","budget":1000}]}"#;
 
@@ -26,7 +26,7 @@ const STATIONS: &str =
 
 const WORKERS: &str = r#"[{"kind":"cdcl","budget":1000}]"#;
 
-// Why a text is refused, in short: a member with its place, or one of the others.
+// The cause of a rejection, in short. The number is the place of the member.
 #[derive(Clone, Copy)]
 enum Fault {
     Missing(Name, u64),
@@ -38,7 +38,7 @@ enum Fault {
     Syntax,
 }
 
-// The refusal for this fault.
+// Returns the error for this cause.
 fn refusal(fault: Fault) -> ScenarioErr {
     match fault {
         Fault::Missing(name, at) => ScenarioErr::MissingField { name, at },
@@ -51,7 +51,7 @@ fn refusal(fault: Fault) -> ScenarioErr {
     }
 }
 
-// What the reader says of the bytes: whether it accepts them, or refuses them for this fault.
+// Checks whether the reader rejects the bytes for this cause, or accepts them for `None`.
 fn says(alloc: Global, bytes: &[u8], fault: Option<Fault>) -> bool {
     match (read_scenario(alloc, bytes), fault) {
         (Ok(_), None) => true,
@@ -60,7 +60,7 @@ fn says(alloc: Global, bytes: &[u8], fault: Option<Fault>) -> bool {
     }
 }
 
-// The text with one part of it changed, if it has this part.
+// Returns the text with one part replaced, or `None` if the text does not have this part.
 fn changed(alloc: Global, part: &str, other: &str) -> Result<Option<String>, NoMemory> {
     let Some((before, after)) = TEXT.split_once(part) else {
         return Ok(None);
@@ -68,7 +68,7 @@ fn changed(alloc: Global, part: &str, other: &str) -> Result<Option<String>, NoM
     Ok(Some(format!(in alloc; "{before}{other}{after}")?))
 }
 
-// Whether the text with one part of it changed is refused for this fault, and accepted for `None`.
+// Checks whether the text with one part replaced is rejected for this cause, or accepted for `None`.
 fn is_answered(
     alloc: Global,
     part: &str,
@@ -81,7 +81,7 @@ fn is_answered(
     Ok(says(alloc, text.as_bytes(), fault))
 }
 
-// The first of these rows that is answered otherwise, by what it puts in place of a part of the text.
+// Returns the replacement of the first row with another outcome.
 fn first_otherwise<'a>(
     alloc: Global,
     rows: &[(&str, &'a str, Option<Fault>)],
@@ -94,7 +94,7 @@ fn first_otherwise<'a>(
     Ok(None)
 }
 
-// The same of rows that are all accepted, or all refused for one fault.
+// Returns the same for rows that are all accepted, or all rejected for one cause.
 fn first_not<'a>(
     alloc: Global,
     fault: Option<Fault>,
@@ -108,7 +108,7 @@ fn first_not<'a>(
     Ok(None)
 }
 
-// The first of the values for which the text is answered otherwise, where it stands between these two in place of a part.
+// Returns the first value with another outcome. Each value, between `before` and `after`, replaces a part of the text.
 fn first_value<'a>(
     alloc: Global,
     values: &[&'a str],
@@ -126,7 +126,7 @@ fn first_value<'a>(
     Ok(None)
 }
 
-// The first part, and what stands there before the value, for which one of the values is not refused for this fault.
+// Returns the part and `before` of the first row in which one of the values is not rejected for this cause.
 fn first_place<'a>(
     alloc: Global,
     values: &[&str],

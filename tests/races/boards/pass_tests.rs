@@ -1,4 +1,4 @@
-//! Tests of two passes to one board, the second of which is used after the first.
+//! Two passes post to one board, and the second is used after the first.
 
 use crate::races::boards::tests::{auction, told};
 use crate::samples::answers::{FOUR_FITS, Given};
@@ -11,7 +11,7 @@ use std::test::Fail;
 use std::thread;
 use std::thread::Threads;
 
-// The reply to the first pass, which answers query 1, and the query that the pass then sees.
+// Answers query 1 through the first pass. Returns the reply and the query that the pass then reads.
 fn told_first<R: Wait>(
     rt: &R,
     alloc: Global,
@@ -22,7 +22,7 @@ fn told_first<R: Wait>(
     Ok((reply, board.current(rt, pass)))
 }
 
-// The reply to the second pass, which answers query 1 by another fit in a thread that starts now.
+// Answers query 1 with another fit through the second pass, in a new thread. Returns the reply.
 fn told_in_a_thread<W: Threads + Wait + Sync>(
     rt: &W,
     alloc: Global,
@@ -37,7 +37,7 @@ fn told_in_a_thread<W: Threads + Wait + Sync>(
     reply
 }
 
-// Both, the second thread starting after the first reply.
+// Posts through both passes; the second thread starts after the first reply.
 fn told_in_turn<W: Threads + Wait + Sync>(
     rt: &W,
     alloc: Global,
@@ -49,7 +49,7 @@ fn told_in_turn<W: Threads + Wait + Sync>(
     Ok((reply, now, later))
 }
 
-// The second fit is valid for query 1 too, which is no longer current. The history has both postings.
+// A thread that starts after query 1 is settled gets `WrongQuery` for a valid fit of query 1. Both postings are in the history.
 #[test]
 fn an_answer_from_a_thread_that_starts_later_is_turned_away(rt: HostRuntime) -> Result<(), Fail> {
     let alloc = rt.alloc();
@@ -67,7 +67,7 @@ fn an_answer_from_a_thread_that_starts_later_is_turned_away(rt: HostRuntime) -> 
     Ok(())
 }
 
-// The first pass settles four queries. Returns the reply to the second pass, which posts a receipt for query 5.
+// Settles four queries through the first pass. Returns the reply to the second pass, which posts a receipt for query 5.
 fn spends_at_query_5<R: Wait>(
     rt: &R,
     alloc: Global,
@@ -81,7 +81,7 @@ fn spends_at_query_5<R: Wait>(
     told(rt, alloc, board, &mut passes[1], 5, Given::Spent)
 }
 
-// The reply to the second pass, and the auction after the board is closed.
+// Returns the reply to the second pass, and the auction after the board is closed.
 fn after_a_receipt<R: Wait>(rt: &R, alloc: Global) -> Result<(Reply, Auction), NoMemory> {
     let auction = auction(alloc, 1)?;
     let Ok((board, mut passes)) = Board::raise(alloc, auction, 2) else {
@@ -92,7 +92,7 @@ fn after_a_receipt<R: Wait>(rt: &R, alloc: Global) -> Result<(Reply, Auction), N
     Ok((reply?, auction))
 }
 
-// Pass 1 posts as worker 1.
+// A receipt that pass 1 posts is noted for worker 1.
 #[test]
 fn a_receipt_is_noted_for_the_worker_of_its_pass(rt: HostRuntime) -> Result<(), Fail> {
     let (reply, auction) = after_a_receipt(&rt, rt.alloc())?;

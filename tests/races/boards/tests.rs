@@ -1,4 +1,4 @@
-//! Tests of postings on a board, from one thread and from several.
+//! Replies to postings on a board, from one thread and from several.
 
 use crate::samples::answers::{Given, answer};
 use crate::samples::books::three_stations;
@@ -17,7 +17,7 @@ use std::test::Fail;
 use std::thread;
 use std::thread::Threads;
 
-// The query of a posting, its answer, what it is to be told, and which query is to stand then.
+// The query of a posting, its answer, the expected reply, and the query that is current afterwards.
 type Case = (u64, Given, Reply, u64);
 
 const WRONG_QUERY: Reply = Reply::WrongQuery { now: 1 };
@@ -57,8 +57,7 @@ const BOTH_ON_14: Pair = Pair {
     b: 14,
 };
 
-// Postings, each of the pass at a place, that are a stranger's, for another query, at fault or late, and one that settles the
-// first query.
+// Postings, each with the index of its pass: by a pass without a worker, for another query, invalid or late. One settles the first query.
 const POSTINGS: &[(usize, Case)] = &[
     (2, (1, Given::Fit(1, 14), Reply::Stranger, 1)),
     (0, (0, Given::Fit(1, 14), WRONG_QUERY, 1)),
@@ -72,7 +71,7 @@ const POSTINGS: &[(usize, Case)] = &[
     (0, (2, Given::EmptyProof, AT_LINE_1, 2)),
 ];
 
-// Postings up to the end and one after it: a receipt is noted, was noted, and settles the last query.
+// Postings up to the end and one after the end. One receipt is noted, one was noted before, and one settles the last query.
 const TO_THE_END: &[(usize, Case)] = &[
     (0, (1, Given::Fit(1, 14), NEXT_2, 2)),
     (1, (2, Given::Fit(2, 14), NEXT_3, 3)),
@@ -95,7 +94,7 @@ const OLDER_QUERY: &[(usize, Case)] = &[
     (0, (4, Given::Fit(1, 15), NEXT_5, 5)),
 ];
 
-// Answers to all five queries, then postings after the end: for the next number, for earlier queries and for none, by each worker
+// Answers to all five queries, then postings after the end. These are for the next number, earlier queries and no query, by both workers
 // and by a pass without a worker.
 const AFTER_THE_END: &[(usize, Case)] = &[
     (0, (1, Given::Fit(1, 14), NEXT_2, 2)),
@@ -110,7 +109,7 @@ const AFTER_THE_END: &[(usize, Case)] = &[
     (2, (6, Given::Refuted, Reply::Ended, 6)),
 ];
 
-// The auction of three stations, with two workers of this budget, at its first query.
+// Returns the auction of three stations at its first query, with two workers of this budget.
 pub(crate) fn auction(alloc: Global, budget: u32) -> Result<Auction, NoMemory> {
     let workers = vec![in alloc; learner(budget), learner(budget)]?;
     let sc = three_bids(alloc, 70, 1, workers)?;
@@ -118,7 +117,7 @@ pub(crate) fn auction(alloc: Global, budget: u32) -> Result<Auction, NoMemory> {
     Auction::start(alloc, &sc, &book, Order::ByFacility)
 }
 
-// What a posting is told.
+// Posts an answer and returns the reply.
 pub(crate) fn told<R: Wait>(
     rt: &R,
     alloc: Global,
@@ -134,7 +133,7 @@ pub(crate) fn told<R: Wait>(
     Ok(reply)
 }
 
-// Whether a posting is told its reply, and leaves the query that is to stand.
+// Checks whether a posting gets its expected reply and leaves the expected query current.
 fn is_told<R: Wait>(rt: &R, alloc: Global, board: &Board, pass: &mut Pass, case: Case) -> bool {
     let (number, given, reply, after) = case;
     let Ok(told) = told(rt, alloc, board, pass, number, given) else {
@@ -143,7 +142,7 @@ fn is_told<R: Wait>(rt: &R, alloc: Global, board: &Board, pass: &mut Pass, case:
     told == reply && board.current(rt, pass) == after
 }
 
-// Whether each posting is told its reply: by the pass at its place.
+// Checks whether each posting, through the pass with its index, gets its expected reply.
 fn are_told<R: Wait>(
     rt: &R,
     alloc: Global,
@@ -162,8 +161,8 @@ fn are_told<R: Wait>(
     all
 }
 
-// Whether each posting is told its reply, and the history then has as many entries. The board has one pass more than there are
-// workers, each of this budget.
+// Checks whether each posting gets its expected reply, and whether the history has all of them. The board has one pass more than workers,
+// and each worker has this budget.
 fn are_told_on<R: Wait>(
     rt: &R,
     alloc: Global,
@@ -179,7 +178,7 @@ fn are_told_on<R: Wait>(
     Ok(told && auction.posted() == cases.len() as u64)
 }
 
-// Each posting is told its reply, whether it is turned away, at fault, advances, is noted or was noted.
+// Each posting gets its reply: stranger, wrong query, rejected, advanced, noted, already spent or ended.
 #[test]
 fn each_reply(rt: HostRuntime) -> Result<(), Fail> {
     let alloc = rt.alloc();
@@ -188,43 +187,43 @@ fn each_reply(rt: HostRuntime) -> Result<(), Fail> {
     Ok(())
 }
 
-// A fit for query 3 is turned away at query 4 from each worker, and query 4 can still be settled.
+// An answer for an older query gets `WrongQuery` from either worker, and the current query can still be settled.
 #[test]
 fn an_answer_for_an_older_query_is_turned_away(rt: HostRuntime) -> Result<(), Fail> {
     assert!(rt; are_told_on(&rt, rt.alloc(), 1000, OLDER_QUERY)?);
     Ok(())
 }
 
-// Whatever the answer and whoever posts it. `current` then answers 6, one past the last query.
+// Every posting after the end gets `Ended`, for any answer and any pass. `current` then returns 6, the last query's number plus one.
 #[test]
 fn every_posting_after_the_end_gets_ended(rt: HostRuntime) -> Result<(), Fail> {
     assert!(rt; are_told_on(&rt, rt.alloc(), 1000, AFTER_THE_END)?);
     Ok(())
 }
 
-// What the passes are told that post at once.
+// Counts over passes that post at once.
 #[derive(Drop)]
 struct Counts {
-    // How many replies are possible at their place.
+    // The number of replies that were possible for their posting.
     possible: AtomicU64,
-    // How many settle the first query.
+    // The number of postings that settled the first query.
     settled: AtomicU64,
 }
 
-// What a posting of the table is told while the first query stands.
+// Returns the reply to a posting of the table while the first query is current.
 fn early_reply(case: Case) -> Reply {
     let (number, _, reply, _) = case;
     if number == 2 {
         return WRONG_QUERY;
     }
-    // It is valid, and comes too late in the table alone.
+    // The fit is valid; only the order of the table makes the fit late.
     if reply == TOO_LATE {
         return NEXT_2;
     }
     reply
 }
 
-// What a posting of the table is told while the second query stands, which nothing in the table settles.
+// Returns the reply to a posting of the table while the second query is current. No posting of the table settles the second query.
 fn late_reply(case: Case) -> Reply {
     let (number, _, reply, _) = case;
     if number == 2 {
@@ -233,8 +232,8 @@ fn late_reply(case: Case) -> Reply {
     TOO_LATE
 }
 
-// Whether a posting of the table may be told this by a board on which the other passes post too. `settled` says whether the
-// pass was told already that the first query is settled.
+// Checks whether a posting may get this reply while the other passes post too. `settled` says whether an earlier reply to this pass showed
+// that the first query is settled.
 fn is_possible(case: Case, settled: bool, reply: Reply) -> bool {
     if reply == late_reply(case) {
         return true;
@@ -242,7 +241,7 @@ fn is_possible(case: Case, settled: bool, reply: Reply) -> bool {
     !settled && reply == early_reply(case)
 }
 
-// Posts the pass's own postings of the table in their order, up to the first that is told what it may not be, and counts.
+// Posts the table's postings of this pass in order and counts the replies. Stops at the first reply that is not possible.
 fn post_own<R: Wait>(
     rt: &R,
     alloc: Global,
@@ -271,7 +270,7 @@ fn post_own<R: Wait>(
     }
 }
 
-// The same, each pass in a thread of its own.
+// Posts the table, each pass in its own thread.
 fn all_post<W: Threads + Wait + Sync>(
     rt: &W,
     alloc: Global,
@@ -283,7 +282,7 @@ fn all_post<W: Threads + Wait + Sync>(
     thread::for_each_mut(rt, passes, 3, &part);
 }
 
-// How long the history is of a board on which three threads posted, and which query stands.
+// Lets three threads post to one board. Returns the length of its history and the current query.
 fn left_by_all<W: Threads + Wait + Sync>(
     rt: &W,
     alloc: Global,
@@ -298,7 +297,7 @@ fn left_by_all<W: Threads + Wait + Sync>(
     Ok((auction.posted(), auction.number()))
 }
 
-// Each of the ten replies is one that is possible, and of the two valid answers to the first query just one settles it.
+// Three threads that post at once get ten possible replies. Exactly one of the two valid answers to the first query settles it.
 #[test]
 fn three_threads_post_at_once(rt: HostRuntime) -> Result<(), Fail> {
     let counts = Counts {

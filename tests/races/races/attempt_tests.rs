@@ -1,4 +1,4 @@
-//! A test of a worker that stays inside an attempt while another worker looks and posts.
+//! A worker stays inside an attempt while another worker reads the board and posts.
 
 use crate::races::races::samples::{after_wave, by_two_workers, settling};
 use crate::samples::books::three_stations;
@@ -22,8 +22,8 @@ struct Words {
     tried: AtomicU64,
 }
 
-// A worker that answers each query by the answer that settles it. If it stays, it first waits until the other worker tries query 5;
-// else it first waits until the other worker is inside an attempt. It never asks its poll.
+// A worker that settles each query and never asks its poll. If the worker stays, it first waits until the other tries query 5. Otherwise it
+// first waits until the other is inside an attempt.
 #[derive(Drop)]
 struct Actor<'a> {
     worker: Worker,
@@ -32,7 +32,7 @@ struct Actor<'a> {
 }
 
 impl Actor<'_> {
-    // Whether the other worker came that far in time.
+    // Waits for the other worker's progress. Returns whether it came in time.
     fn is_met(&self, number: u64) -> bool {
         if self.stays {
             self.words.inside.store(1, Ordering::SeqCst);
@@ -61,8 +61,8 @@ impl Racer for Actor<'_> {
     }
 }
 
-// The first worker stays inside its attempt at query 1 until the second one has settled four queries and looked at five. If a
-// worker had the board's turn while it tries a query, one of the two would wait in vain and stop.
+// A worker reads the board and posts while another is inside an attempt. The first worker stays inside its attempt at query 1 until the
+// second has settled four queries and read five. If an attempt held the board's turn, one of the two would wait in vain and stop.
 #[test]
 fn a_worker_looks_and_posts_while_another_is_inside_an_attempt(
     rt: HostRuntime,

@@ -1,5 +1,5 @@
-//! Tests of a racer behind first looks and a cache: what was said once isn't tried again, what is kept and no fit is passed over, and
-//! what a look finds is neither tried nor kept.
+//! Tests of a racer with quick fits and a cache. An answered set is not tried again, an invalid kept map is skipped, and a quick fit is
+//! neither tried nor kept.
 
 use crate::samples::books::three_stations;
 use crate::samples::workers::learner;
@@ -23,7 +23,7 @@ use std::test::Fail;
 // A station on a channel.
 type Entry = (u32, u8);
 
-// What is to be said: that the set fits, by so many changes of the channels that stand, or that it doesn't fit.
+// The expected answer: a fit, a fit that changes this many channels of the last map, or a refutation.
 #[derive(Clone, Copy)]
 enum Want {
     Fit,
@@ -31,7 +31,7 @@ enum Want {
     Unfit,
 }
 
-// A solver whose attempts are counted.
+// A solver that counts its attempts.
 #[derive(Drop)]
 struct Counted<'a> {
     solver: RacerKind,
@@ -53,7 +53,7 @@ impl Racer for Counted<'_> {
     }
 }
 
-// The test of a set whose stations have these channels: of its last station, or of all where none has one.
+// Returns the test of the set's last station, with this last map. With an empty last map the complete set is tested.
 fn task_of(alloc: Global, set: &[u32], last: &[Entry]) -> Result<Task, NoMemory> {
     let tested = if last.is_empty() { None } else { set.last() };
     Ok(Task {
@@ -65,7 +65,7 @@ fn task_of(alloc: Global, set: &[u32], last: &[Entry]) -> Result<Task, NoMemory>
     })
 }
 
-// The map of these entries.
+// Returns the map of these entries.
 fn map_of(alloc: Global, entries: &[Entry]) -> Result<ChannelMap, NoMemory> {
     let mut map = ChannelMap::of(alloc, &[])?;
     for entry in entries {
@@ -74,7 +74,7 @@ fn map_of(alloc: Global, entries: &[Entry]) -> Result<ChannelMap, NoMemory> {
     Ok(map)
 }
 
-// A cache that keeps these maps, each of a set, the last one put last.
+// Returns a cache that keeps these maps, each for its set; the last one was put last.
 fn cache_of(alloc: Global, kept: &[(&[u32], &[Entry])]) -> Result<Cache, NoMemory> {
     let mut cache = Cache::make(alloc, 4)?;
     for (set, entries) in kept {
@@ -85,7 +85,7 @@ fn cache_of(alloc: Global, kept: &[(&[u32], &[Entry])]) -> Result<Cache, NoMemor
     Ok(cache)
 }
 
-// Whether the racer says of the set what is wanted, where these channels stand.
+// Checks whether the racer gives the expected answer for this set and last map.
 fn says<R: Racer>(
     alloc: Global,
     racer: &mut R,
@@ -110,7 +110,7 @@ fn is_wanted(said: &Attempt, want: Want) -> bool {
     }
 }
 
-// Whether a fit by so many changes is wanted.
+// Checks whether a fit of this size is expected.
 fn is_fit(map: &ChannelMap, want: Want) -> bool {
     match want {
         Want::Fit => true,
@@ -119,8 +119,8 @@ fn is_fit(map: &ChannelMap, want: Want) -> bool {
     }
 }
 
-// Whether a solver with ample budget behind a cache of these maps says what is wanted of each set, where these channels stand,
-// having attempted so many by then.
+// Checks the answers of a solver with ample budget and a cache of these maps. Each row has a set, a last map, the expected answer, and the
+// number of attempts up to then.
 fn attempts<W: Wait>(
     rt: &W,
     alloc: Global,
@@ -146,8 +146,8 @@ fn attempts<W: Wait>(
     Ok(true)
 }
 
-// An equal task is answered by the cache, and so is one of fewer stations where its set fits; one of more is tried. A kept map
-// that is no fit is passed over, for an older one or a refutation that is valid; where there is none the solver tries.
+// The cache answers an equal task, and one with fewer stations if the set fits; a larger set is tried. A kept map that is no fit is skipped
+// for an older map or a valid refutation. Without either, the solver tries.
 #[test]
 fn what_was_said_is_not_tried_again(rt: HostRuntime) -> Result<(), Fail> {
     let rows: &[(&[u32], &[Entry], Want, u64)] = &[
@@ -174,8 +174,8 @@ fn what_was_said_is_not_tried_again(rt: HostRuntime) -> Result<(), Fail> {
     Ok(())
 }
 
-// A free channel of the tested station is said, and not the map that the cache would suggest, which moves the other station too. It
-// isn't kept: where no look is had, the cache hasn't that set, the solver tries, and only then it is kept.
+// A quick fit is neither tried nor kept. The answer is a free channel of the tested station, not the cached map that would move the other
+// station too. The same set without quick fits is not in the cache: the solver tries it, and only then it is kept.
 #[test]
 fn what_a_look_finds_is_neither_tried_nor_kept(rt: HostRuntime) -> Result<(), Fail> {
     let kept: &[(&[u32], &[Entry])] = &[(&[1, 2], &[(1, 15), (2, 14)])];

@@ -1,4 +1,4 @@
-//! A test of two workers that meet at each query, held by a gate.
+//! Two workers meet at each query, held by a gate.
 
 use crate::races::races::tests::{By, freezes};
 use crate::samples::gates::Meeting;
@@ -6,8 +6,8 @@ use crate::samples::scenarios::three_bids;
 use crate::samples::workers::learner;
 use std::test::Fail;
 
-// Both workers come to each of the five queries, and neither waits for long: so both try each query, and each posts while the
-// other stands before its own posting. Worker 1 is answered first, so its proof refutes the last set.
+// Two workers race at each of the five queries. Worker 0 waits before its posting until worker 1 is answered, and neither wait times out.
+// So the first answer is worker 1's, and its proof refutes the last set.
 #[test]
 fn two_workers_race_at_each_query(rt: HostRuntime) -> Result<(), Fail> {
     let alloc = rt.alloc();

@@ -1,4 +1,4 @@
-//! Whole live auctions: what the owners of three stations say decides them, and no value does.
+//! Complete live auctions: the owners' answers decide, and values are ignored.
 
 use crate::races::races::samples::all_on_air;
 use crate::races::races::tests::{By, Test, are_of};
@@ -17,10 +17,10 @@ use std::sync::Wait;
 use std::test::Fail;
 use std::thread::Threads;
 
-// How an auction ends: its total in cents, its tests, and the stations on air.
+// How an auction ends: its ending, total in cents, tests, and the stations on air.
 type End = (Ending, u64, &'static [Test], &'static [u32]);
 
-// Whether the record's scenario has these owners.
+// Checks whether the record has these owners.
 fn has_owners(record: &Record, owners: &Owners) -> bool {
     match record.owners() {
         Some(said) => said.lines() == owners.lines(),
@@ -28,7 +28,7 @@ fn has_owners(record: &Record, owners: &Owners) -> bool {
     }
 }
 
-// Whether these stations alone are on air.
+// Checks whether exactly these stations are on air.
 fn are_on_air(map: &ChannelMap, stations: &[u32]) -> bool {
     for station in stations {
         if map.get(*station).is_none() {
@@ -46,7 +46,7 @@ fn is_end(record: &Record, end: End) -> bool {
         && are_on_air(&record.map, on_air)
 }
 
-// Whether the live auction of these owners ends so.
+// Checks whether the live auction with these answers has this end.
 fn ends<W: Threads + Wait + Sync>(
     rt: &W,
     alloc: Global,
@@ -60,7 +60,7 @@ fn ends<W: Threads + Wait + Sync>(
     Ok(has_owners(&record, &owners) && is_end(&record, end))
 }
 
-// The place of the first of these rows whose auction ends otherwise, from 0.
+// Returns the index of the first row whose auction ends otherwise.
 fn ends_otherwise<W: Threads + Wait + Sync>(
     rt: &W,
     alloc: Global,
@@ -76,9 +76,9 @@ fn ends_otherwise<W: Threads + Wait + Sync>(
     Ok(None)
 }
 
-// What the owners say, and how the auction ends. The offers are 100, 60 and 20 cents, and there is room for two.
+// The owners' answers and the expected end. The offers are 100, 60 and 20 cents, and two stations fit.
 const LIVE: &[(SaidLines, End)] = &[
-    // As by values of 50, 70 and 10.
+    // The same answers as with values of 50, 70 and 10 cents.
     (
         AS_BID,
         (
@@ -94,7 +94,7 @@ const LIVE: &[(SaidLines, End)] = &[
             &[1, 2],
         ),
     ),
-    // Station 2 declines the opening offer, whatever it says later.
+    // Station 2 declines the opening offer; its later answers do not count.
     (
         &[
             (0, 1, true),
@@ -117,7 +117,7 @@ const LIVE: &[(SaidLines, End)] = &[
             &[1, 2],
         ),
     ),
-    // Station 1 stays in each round, and is tested once more behind the last fall.
+    // Station 1 stays in each round, and is tested once more after the last fall.
     (
         FIRST_STAYS,
         (
@@ -134,7 +134,7 @@ const LIVE: &[(SaidLines, End)] = &[
             &[2, 3],
         ),
     ),
-    // All stay in each round, and whoever fits behind the last fall goes on air.
+    // All stations stay in each round. Those that fit after the last fall go on air.
     (
         ALL_STAY,
         (
@@ -154,7 +154,7 @@ const LIVE: &[(SaidLines, End)] = &[
             &[1, 2],
         ),
     ),
-    // Station 1 leaves at once, and is not back where it says later that it stays.
+    // Station 1 leaves at once, and its later answer that it stays does not bring it back.
     (
         FIRST_LEAVES,
         (
@@ -170,7 +170,7 @@ const LIVE: &[(SaidLines, End)] = &[
             &[1, 2],
         ),
     ),
-    // Stations 1 and 3 say that they leave.
+    // Stations 1 and 3 answer that they leave.
     (
         &[
             (0, 1, false),
@@ -187,7 +187,7 @@ const LIVE: &[(SaidLines, End)] = &[
             &[1, 3],
         ),
     ),
-    // All decline the opening offer, of which two say so, or none.
+    // All decline the opening offer: two say so and the third says nothing, or all say nothing.
     (
         &[(0, 1, false), (0, 2, false)],
         (Ending::StartRefuted, 0, &[], &[]),
@@ -195,7 +195,7 @@ const LIVE: &[(SaidLines, End)] = &[
     (&[], (Ending::StartRefuted, 0, &[], &[])),
 ];
 
-// Without values, and with values of 50, 70 and 10.
+// The owners' answers decide, in a scenario without values and in one with values of 50, 70 and 10 cents.
 #[test]
 fn owners_say_who_stays(rt: HostRuntime) -> Result<(), Fail> {
     let alloc = rt.alloc();

@@ -1,5 +1,4 @@
-//! A test of a wave whose workers are of three kinds: memory runs out for the first, the second only waits for another to answer,
-//! and the third answers.
+//! A wave in which memory runs out for one worker, one only waits for another to answer, and one answers.
 
 use crate::races::races::samples::{after_wave, other_query};
 use crate::samples::books::three_stations;
@@ -20,15 +19,15 @@ use std::test::Fail;
 // What a worker does with a query.
 #[derive(Clone, Copy)]
 enum Part {
-    // Memory runs out.
+    // Reports that memory ran out.
     Starves,
-    // It asks its poll until another query stands.
+    // Asks its poll until another query is current.
     Waits,
-    // Its solver tries it, once memory ran out for another worker.
+    // Lets its solver try the query, once memory has run out for another worker.
     Solves,
 }
 
-// What the worker that comes here in the list does.
+// Returns the part of the worker at this place in the list.
 fn part_of(place: usize) -> Part {
     match place {
         0 => Part::Starves,
@@ -37,12 +36,12 @@ fn part_of(place: usize) -> Part {
     }
 }
 
-// A worker's solver, and what the worker does.
+// A worker's solver and its part.
 #[derive(Drop)]
 struct Actor<'a> {
     solver: RacerKind,
     part: Part,
-    // 1 once memory ran out for a worker.
+    // 1 once memory has run out for a worker.
     starved: &'a AtomicU64,
 }
 
@@ -75,7 +74,7 @@ impl Racer for Actor<'_> {
     }
 }
 
-// A solver for each worker, and its part.
+// Returns a solver with its part for each worker.
 fn actors<'a>(
     alloc: Global,
     workers: &[Worker],
@@ -94,8 +93,8 @@ fn actors<'a>(
     Ok(racers)
 }
 
-// Memory runs out for the first worker before the third tries anything. The third settles each query, which the second learns
-// from its poll, and the board closes with these answers.
+// The wave continues without a worker whose memory ran out. The third worker first waits for that, then settles each query. The second
+// worker learns this from its poll, and the board closes with these answers.
 #[test]
 fn one_worker_starves_one_waits_and_one_answers(rt: HostRuntime) -> Result<(), Fail> {
     let alloc = rt.alloc();

@@ -1,4 +1,4 @@
-//! A test of workers that ask their polls until another worker has answered.
+//! Workers ask their polls until another worker has answered.
 
 use crate::races::races::samples::{after_wave, by_two_workers, other_query, settling};
 use crate::samples::books::three_stations;
@@ -22,18 +22,18 @@ struct Words {
     learned: AtomicU64,
 }
 
-// A worker that settles every second query, once the other worker's poll was asked there. At the other queries it asks its poll
-// until another query is current.
+// A worker that settles every second query, once the other worker has asked its poll at that query. At the other queries this worker asks
+// its poll until another query is current.
 #[derive(Drop)]
 struct Actor<'a> {
     worker: Worker,
-    // 1 if it settles the queries of odd numbers, 0 if it settles the others.
+    // 1 if the worker settles the queries of odd numbers, 0 if it settles the others.
     settles: u64,
     words: &'a Words,
 }
 
 impl Actor<'_> {
-    // An attempt that ends once the poll reports another query.
+    // Asks the poll until another query is current, then ends the attempt.
     fn asks<P: Poll>(&self, number: u64, poll: &mut P) -> Result<Attempt, NoMemory> {
         if poll.current() != number {
             return Err(NoMemory);
@@ -70,8 +70,8 @@ impl Racer for Actor<'_> {
     }
 }
 
-// Two workers settle the five queries in turn. Each time the other one is inside a long attempt, which its poll ends, and then
-// settles the next query. The last poll reports 6, one past the last query.
+// A poll reports that another worker has answered. Two workers settle the five queries in turn. Each time, the poll of the other worker
+// ends a long attempt, and that worker settles the next query. The last poll reports 6, the last query's number plus one.
 #[test]
 fn a_poll_reports_that_another_worker_answered(rt: HostRuntime) -> Result<(), Fail> {
     let alloc = rt.alloc();

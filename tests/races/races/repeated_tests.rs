@@ -1,4 +1,4 @@
-//! A test of one auction that is run many times, each time with the result that one thread comes to.
+//! One auction is run many times; each run ends as on one thread.
 
 use auction_core::auction::Auction;
 use auction_core::record::{Record, Shown, Step};
@@ -16,9 +16,9 @@ use solver_gate::gate::EmptyGate;
 use std::alloc::{AllocError as NoMemory, Global};
 use std::test::Fail;
 
-// What a station of forty is worth in cents; one without a value starts on air. Of each of the first three fours the last one
-// has a value, and the third one too: it leaves in the first round, or in the second, or stays to the end. Where three of a four
-// are on air the last one no longer fits.
+// Returns the value of one of forty stations in cents; a station without a value starts on air. Only the last two stations of each
+// of the first three groups of four have values. The third of a group leaves in the first round, in the second, or never. Once three
+// of a group are on air, the fourth no longer fits.
 fn value_of(station: u32) -> &'static str {
     match station {
         2 => "70",
@@ -29,7 +29,7 @@ fn value_of(station: u32) -> &'static str {
     }
 }
 
-// Forty stations, asked in two rounds below 100 cents by four workers.
+// Returns a scenario of forty stations with four workers. The price falls twice from 100 cents.
 fn forty_bids(alloc: Global) -> Option<Scenario> {
     let mut text = String::new(alloc);
     text.push_str(r#"{"version":1,"top":16,"opening":100,"decrements":[40,40],"stations":["#)
@@ -52,7 +52,8 @@ fn ids_of(alloc: Global, stations: &[Station]) -> Result<Vec<u32>, NoMemory> {
     stations.iter().map(|station| station.id).collect(alloc)
 }
 
-// Their book, on channels 14 to 16: of each of the first three fours no two may share one, and the others are apart.
+// Returns the book on channels 14 to 16. In each of the first three groups of four, no two stations may share a channel. All other stations
+// do not interfere.
 fn tens_of_four(alloc: Global, sc: &Scenario) -> Option<Book> {
     let mut domains = String::new(alloc);
     let mut rows = String::new(alloc);
@@ -78,7 +79,7 @@ fn tens_of_four(alloc: Global, sc: &Scenario) -> Option<Book> {
     Some(book)
 }
 
-// The auction on this thread alone.
+// Runs the auction on this thread alone.
 fn run_by_turns(alloc: Global, sc: &Scenario, book: &Book) -> Result<Record, NoMemory> {
     let mut racers = racers_of(alloc, sc.workers.as_slice())?;
     let mut auction = Auction::start(alloc, sc, book, Order::ByVolume)?;
@@ -109,7 +110,7 @@ fn are_alike(some: &[Step], others: &[Step]) -> bool {
     true
 }
 
-// Whether the maps have the same stations.
+// Checks whether both maps have the same stations.
 fn have_alike(one: &ChannelMap, other: &ChannelMap) -> bool {
     for (station, _) in one.entries() {
         if other.get(*station).is_none() {
@@ -119,7 +120,7 @@ fn have_alike(one: &ChannelMap, other: &ChannelMap) -> bool {
     one.len() == other.len()
 }
 
-// Whether the same tests were settled alike, the same stations are on air, and as much is paid.
+// Checks whether both records have the same tests with the same outcomes, the same stations on air, and the same total.
 fn are_same(one: &Record, other: &Record) -> bool {
     one.ending == other.ending
         && one.total == other.total

@@ -1,4 +1,4 @@
-//! How a worker asks its poll, what a wave of a test's own racers leaves, and an auction whose stations all start on air.
+//! Helpers of the wave tests: asking a poll, running a wave of a test's own racers, and sample auctions.
 
 use crate::samples::answers::{FOUR_FITS, answer};
 use crate::samples::scenarios::{auction_of, bid, three_bids};
@@ -23,7 +23,7 @@ use std::thread::Threads;
 // How often a worker asks its poll at most. Each time takes a turn of the board's lock.
 const ASKS: u32 = 1_000_000;
 
-// The current query, once it is another one than this; nothing if it is the same after so many asks.
+// Asks the poll until it reports another query than `number`, and returns that query. Returns `None` after `ASKS` asks.
 pub(crate) fn other_query<P: Poll>(poll: &mut P, number: u64) -> Option<u64> {
     for _ in 0..ASKS {
         let now = poll.current();
@@ -35,25 +35,25 @@ pub(crate) fn other_query<P: Poll>(poll: &mut P, number: u64) -> Option<u64> {
     None
 }
 
-// The answer that settles the query of this number, of the five of stations 1 to 3.
+// Returns the answer that settles this query, one of the five of stations 1 to 3.
 pub(crate) fn settling(alloc: Global, number: u64) -> Result<Attempt, NoMemory> {
     let given = FOUR_FITS[number as usize - 1];
     Ok(Attempt::Said(answer(alloc, given)?))
 }
 
-// The auction of stations 1 to 3 by two workers, at its first query.
+// Returns the auction of stations 1 to 3 by two workers, at its first query.
 pub(crate) fn by_two_workers(alloc: Global, book: &Book) -> Result<Auction, NoMemory> {
     let workers = vec![in alloc; learner(1000), learner(1000)]?;
     let sc = three_bids(alloc, 70, 1, workers)?;
     Auction::start(alloc, &sc, book, Order::ByFacility)
 }
 
-// What a wave leaves.
+// The result of a wave.
 #[derive(Drop)]
 pub(crate) struct Left {
     pub(crate) auction: Auction,
     pub(crate) done: Result<(), NoMemory>,
-    // For which workers memory ran out, in order.
+    // For each worker in order, whether memory ran out.
     pub(crate) refused: Vec<bool>,
 }
 
@@ -87,7 +87,7 @@ pub(crate) fn after_wave<R: Racer + Send + Drop, W: Threads + Wait + Sync>(
     })
 }
 
-// The auction of stations 1 to 3, of which none has a value, so that each starts on air.
+// Returns the auction of stations 1 to 3 without values, so that each starts on air.
 pub(crate) fn all_on_air(alloc: Global, workers: Vec<Worker>) -> Result<Scenario, NoMemory> {
     let stations = vec![in alloc; bid(1, 1, None), bid(2, 1, None), bid(3, 1, None)]?;
     auction_of(alloc, stations, workers)

@@ -1,4 +1,4 @@
-//! Tests of whole auctions.
+//! Complete auctions, run on threads by racing workers.
 
 use crate::races::races::samples::all_on_air;
 use crate::samples::books::three_stations;
@@ -54,7 +54,7 @@ fn is_settled(shown: &Shown, by: By) -> bool {
 // The round and the station of a test, and how it is settled.
 pub(crate) type Test = (u32, u32, By);
 
-// Whether the steps are of these tests, in order.
+// Checks whether the steps are these tests, in order.
 pub(crate) fn are_of(steps: &[Step], tests: &[Test]) -> bool {
     if steps.len() != tests.len() {
         return false;
@@ -69,7 +69,7 @@ pub(crate) fn are_of(steps: &[Step], tests: &[Test]) -> bool {
     true
 }
 
-// Whether stations 1 and 2 alone are on air, each on a channel of its own.
+// Checks whether only stations 1 and 2 are on air, each on its own channel.
 fn are_two(map: &ChannelMap) -> bool {
     let channels = (map.get(1), map.get(2), map.len());
     channels == (Some(14), Some(15), 2) || channels == (Some(15), Some(14), 2)
@@ -83,7 +83,7 @@ fn is_end(record: &Record, ending: Ending, total: u64, tests: &[Test]) -> bool {
         && are_of(record.steps.as_slice(), tests)
 }
 
-// Whether the auction of these three stations ends so.
+// Checks whether the auction of three stations has this ending, total and these tests.
 fn ends<G: Gate + Sync, W: Threads + Wait + Sync>(
     rt: &W,
     alloc: Global,
@@ -98,7 +98,7 @@ fn ends<G: Gate + Sync, W: Threads + Wait + Sync>(
     Ok(is_end(&record, ending, total, tests))
 }
 
-// Whether station 3 is frozen at 60 cents, with its last test settled so.
+// Checks whether station 3 is frozen at 60 cents, with its last test settled by `last`.
 pub(crate) fn freezes<G: Gate + Sync, W: Threads + Wait + Sync>(
     rt: &W,
     alloc: Global,
@@ -109,7 +109,7 @@ pub(crate) fn freezes<G: Gate + Sync, W: Threads + Wait + Sync>(
     ends(rt, alloc, gate, sc, Ending::Done, 60, &last_tests(last))
 }
 
-// The tests of three stations that end with this one of station 3.
+// Returns the tests of three stations, with `last` as the final one of station 3.
 fn last_tests(last: By) -> [Test; 5] {
     [
         (1, 1, By::Fit),
@@ -120,7 +120,7 @@ fn last_tests(last: By) -> [Test; 5] {
     ]
 }
 
-// The same of the auction by one worker of this budget.
+// Checks the same ending of the auction by one worker of this budget.
 fn one_freezes<W: Threads + Wait + Sync>(
     rt: &W,
     alloc: Global,
@@ -131,7 +131,7 @@ fn one_freezes<W: Threads + Wait + Sync>(
     freezes(rt, alloc, &EmptyGate, &sc, last)
 }
 
-// The same of the auction by one worker, where so many turns on this thread were behind it when it went on.
+// Checks the same ending of the auction by one worker that resumes after this many turns on this thread.
 fn freezes_behind<W: Threads + Wait + Sync>(
     rt: &W,
     alloc: Global,
@@ -144,7 +144,7 @@ fn freezes_behind<W: Threads + Wait + Sync>(
     Ok(is_end(&record, Ending::Done, 60, &last_tests(By::ProofOf(0))))
 }
 
-// The auction after so many turns on this thread.
+// Returns the auction after this many turns on this thread.
 fn turned(alloc: Global, sc: &Scenario, book: &Book, turns: u32) -> Result<Auction, NoMemory> {
     let mut racers = racers_of(alloc, sc.workers.as_slice())?;
     let mut auction = Auction::start(alloc, sc, book, Order::ByVolume)?;
@@ -154,7 +154,7 @@ fn turned(alloc: Global, sc: &Scenario, book: &Book, turns: u32) -> Result<Aucti
     Ok(auction)
 }
 
-// The same of the auction by two workers of these budgets.
+// Checks the same ending of the auction by two workers of these budgets.
 fn two_freeze<W: Threads + Wait + Sync>(
     rt: &W,
     alloc: Global,
@@ -174,7 +174,7 @@ fn three_stations_are_asked_by_a_worker(rt: HostRuntime) -> Result<(), Fail> {
     Ok(())
 }
 
-// It goes on from its first query, from each later one and from its end.
+// An auction resumes from its first query, from each later one, and from its end.
 #[test]
 fn three_stations_go_on_from_any_query(rt: HostRuntime) -> Result<(), Fail> {
     for turns in 0..7 {
@@ -183,7 +183,7 @@ fn three_stations_go_on_from_any_query(rt: HostRuntime) -> Result<(), Fail> {
     Ok(())
 }
 
-// Neither decides the last test, or either does, or the second what the first did not.
+// Two workers decide the last test: neither does, either does, or only the second does.
 #[test]
 fn three_stations_are_asked_by_two_workers(rt: HostRuntime) -> Result<(), Fail> {
     assert!(rt; two_freeze(&rt, rt.alloc(), 1, 1, By::None)?);
@@ -192,7 +192,7 @@ fn three_stations_are_asked_by_two_workers(rt: HostRuntime) -> Result<(), Fail> 
     Ok(())
 }
 
-// As many workers as a scenario may have.
+// An auction runs with as many workers as a scenario may have.
 #[test]
 fn three_stations_are_asked_by_sixteen_workers(rt: HostRuntime) -> Result<(), Fail> {
     let alloc = rt.alloc();
@@ -203,7 +203,8 @@ fn three_stations_are_asked_by_sixteen_workers(rt: HostRuntime) -> Result<(), Fa
     Ok(())
 }
 
-// Station 3, of volume 2, is tested first in each round, and so it is frozen in the third, behind station 1.
+// A greater volume is tested first. Station 3 has volume 2, comes first in each round, and is frozen in the third, after station 1 has
+// left.
 #[test]
 fn greater_volumes_are_tested_first(rt: HostRuntime) -> Result<(), Fail> {
     let alloc = rt.alloc();
@@ -220,7 +221,7 @@ fn greater_volumes_are_tested_first(rt: HostRuntime) -> Result<(), Fail> {
     Ok(())
 }
 
-// Whether the auction whose stations all start on air ends so, by one worker of this budget.
+// Checks how the auction ends whose stations all start on air, with one worker of this budget.
 fn start_ends<W: Threads + Wait + Sync>(
     rt: &W,
     alloc: Global,

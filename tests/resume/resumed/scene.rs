@@ -1,4 +1,4 @@
-//! What an auction that goes on is given, the run, and what it leaves.
+//! The input of a resumed auction, its run, and the facts about its result.
 
 use crate::scenes::change::Change;
 use crate::scenes::named::{named_folder, named_text};
@@ -11,7 +11,7 @@ use std::sync::Wait;
 use std::sync::atomic::{AtomicU64, Ordering};
 use std::thread::Threads;
 
-// A gate that keeps the number of the query at which a worker stood first; 0 where none did.
+// A gate that keeps the number of the first query that a worker reached, or 0 if none did.
 #[derive(Drop)]
 struct FirstAsked {
     number: AtomicU64,
@@ -26,7 +26,7 @@ impl Gate for FirstAsked {
     }
 }
 
-// Whether the stored transcript begins with this text.
+// Checks whether the stored transcript begins with this text.
 fn begins(folder: &MemoryFolder, kept: &str) -> bool {
     match folder.bytes("tr.txt") {
         Some(bytes) => bytes.starts_with(kept.as_bytes()),
@@ -34,7 +34,7 @@ fn begins(folder: &MemoryFolder, kept: &str) -> bool {
     }
 }
 
-// Whether the transcript goes on from what is kept.
+// Returns whether the stored transcript continues the kept part.
 fn goes_on_text(folder: &MemoryFolder, kept: &str) -> &'static str {
     if begins(folder, kept) {
         return "goes on";
@@ -42,7 +42,7 @@ fn goes_on_text(folder: &MemoryFolder, kept: &str) -> &'static str {
     "begins otherwise"
 }
 
-// The number of the query at which a worker stood first.
+// Returns the number of the first query that a worker reached.
 fn asked_text(alloc: Global, gate: &FirstAsked) -> Result<String, NoMemory> {
     let number = gate.number.load(Ordering::SeqCst);
     if number == 0 {
@@ -51,8 +51,8 @@ fn asked_text(alloc: Global, gate: &FirstAsked) -> Result<String, NoMemory> {
     format!(in alloc; "asked from query {number}")
 }
 
-// Runs these words over a beginning, and tells the facts of what is left, with "; " between each two. `kept` is what the stored
-// transcript may begin with.
+// Runs this command line with this beginning of a transcript. Returns the facts about the result, separated by "; ". `kept` is the
+// expected beginning of the stored transcript.
 fn run<W: Threads + Wait + Sync>(
     rt: &W,
     alloc: Global,
@@ -72,7 +72,7 @@ fn run<W: Threads + Wait + Sync>(
     format!(in alloc; "{left}; {asked}; {goes_on}; {inputs}")
 }
 
-/// Whether the run of these words over this beginning leaves what these facts say, of a transcript that begins with `kept`.
+/// Checks whether a run of this command line with this beginning has these facts. The stored transcript should begin with `kept`.
 pub fn leaves<W: Threads + Wait + Sync>(
     rt: &W,
     alloc: Global,
@@ -86,15 +86,15 @@ pub fn leaves<W: Threads + Wait + Sync>(
     Ok(are_among(facts, &told))
 }
 
-/// The beginning of an auction, what its transcript then begins with, what is changed, and the facts of what is left.
+/// The beginning of a transcript, the part that the new transcript keeps, a change, and the expected facts.
 pub type ResumeRow<'a> = (&'a str, &'a str, Change<'a>, &'a str);
 
-// The words of a run over this scenario.
+// Returns the command line of a run with this scenario.
 fn line_of(alloc: Global, scenario: &str) -> Result<String, NoMemory> {
     format!(in alloc; "repack resume d.csv r.csv {scenario} p.txt out.csv chan.csv tr.txt")
 }
 
-/// The facts of the first row that says of the facts of a run over this scenario one that isn't so.
+/// Returns the facts of the first row that has a fact which is not true of a run with this scenario.
 pub fn first_untrue<'a, W: Threads + Wait + Sync>(
     rt: &W,
     alloc: Global,

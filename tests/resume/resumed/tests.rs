@@ -1,4 +1,4 @@
-//! What an auction that goes on leaves.
+//! Results of resumed auctions.
 
 use super::scene::{ResumeRow, first_untrue, leaves};
 use crate::scenes::change::Change;
@@ -8,17 +8,17 @@ use std::sync::Wait;
 use std::test::Fail;
 use std::thread::Threads;
 
-// The three stations' transcript up to a last test that two workers left open.
+// The transcript of the three stations, ending with a test that two workers left undecided.
 const LEFT_OPEN: &str =
     "transcript 1\nstart empty\nfit 1 1 1\nat 1 14\nfit 1 2 1\nat 2 14\nfit 1 3 1\nat 3 15\nfit 2 1 1\nat 1 15\nundecided 2 3 2\nlines 0 1\n13 -1 0 7 2 8 3 12 0\nmoves 1 1\nmove 3 15\n";
 
-// What becomes of the three stations.
+// The expected facts of the three stations.
 const SETTLED: &str =
     "status 0; said: stations 3\non-air 2\nfrozen 1\nundecided 0\ntotal 60\n; out.csv: facility,outcome,round,price\n1,exit,2,0\n2,exit,1,0\n3,frozen,2,60\n; a record; goes on; inputs kept";
 
 // Beginnings of their transcript.
 const PLAIN: &[ResumeRow] = &[
-    // Nothing, a piece of a line, the first line alone, and a start that was shown.
+    // Nothing, a part of a line, the first line, and the first line with the start.
     ("", "transcript 2\n", Change::Nothing, SETTLED),
     ("transcr", "transcript 2\n", Change::Nothing, SETTLED),
     (
@@ -33,7 +33,7 @@ const PLAIN: &[ResumeRow] = &[
         Change::Nothing,
         "status 0; asked from query 1; goes on",
     ),
-    // The fourth step isn't all there.
+    // The fourth step is incomplete.
     (
         "transcript 1\nstart empty\nfit 1 1 1\nat 1 14\nfit 1 2 1\nat 2 14\nfit 1 3 1\nat 3 15\nfit 2 1 1\n",
         "transcript 1\nstart empty\nfit 1 1 1\nat 1 14\nfit 1 2 1\nat 2 14\nfit 1 3 1\nat 3 15\nfit 2 1 1\nat 1 15\n",
@@ -46,14 +46,14 @@ const PLAIN: &[ResumeRow] = &[
         Change::Nothing,
         "asked from query 4",
     ),
-    // Channels that no run would choose stay.
+    // Channels that no run would choose are kept.
     (
         "transcript 1\nstart empty\nfit 1 1 1\nat 1 15\nfit 1 2",
         "transcript 1\nstart empty\nfit 1 1 1\nat 1 15\nfit 1 2 1\n",
         Change::Nothing,
         "status 0; asked from query 2; goes on",
     ),
-    // All of it, and a piece of a line behind it.
+    // The complete transcript, and the complete transcript followed by a part of a line.
     (TRANSCRIPT, TRANSCRIPT, Change::Nothing, SETTLED),
     (
         "transcript 1\nstart empty\nfit 1 1 1\nat 1 14\nfit 1 2 1\nat 2 14\nfit 1 3 1\nat 3 15\nfit 2 1 1\nat 1 15\nlog 2 3 0 2\non 1 2 3\n13 -1 0 7 2 8 3 12 0\n14 0 13 1 9 2 10 3 11 0\nend 5\nx",
@@ -61,15 +61,15 @@ const PLAIN: &[ResumeRow] = &[
         Change::Nothing,
         "nothing asked; tr.txt: transcript 1\nstart empty\nfit 1 1 1\nat 1 14\nfit 1 2 1\nat 2 14\nfit 1 3 1\nat 3 15\nfit 2 1 1\nat 1 15\nlog 2 3 0 2\non 1 2 3\n13 -1 0 7 2 8 3 12 0\n14 0 13 1 9 2 10 3 11 0\nend 5\n; chan.csv: facility,channel\n1,15\n2,14\n",
     ),
-    // A proof from outside stays.
+    // An outside proof is kept.
     (
         "transcript 1\nstart empty\nfit 1 1 1\nat 1 14\nfit 1 2 1\nat 2 14\nfit 1 3 1\nat 3 15\nfit 2 1 1\nat 1 15\noutside 2 3 2\n13 -1 0 7 2 8 3 12 0\n14 0 13 1 9 2 10 3 11 0\n",
         "transcript 1\nstart empty\nfit 1 1 1\nat 1 14\nfit 1 2 1\nat 2 14\nfit 1 3 1\nat 3 15\nfit 2 1 1\nat 1 15\noutside 2 3 2\n13 -1 0 7 2 8 3 12 0\n14 0 13 1 9 2 10 3 11 0\nend 5\n",
         Change::Nothing,
         SETTLED,
     ),
-    // A file or the sink fails: domains, rows and the beginning are begun and handed out in pieces, of which the last is empty; the
-    // scenario is one load. Behind them come the stores.
+    // A file or the sink fails. The program reads domains, rows and the beginning in pieces: the call that opens the file, a piece, and
+    // an empty piece. It loads the scenario in one call. After that it stores the outputs.
     (
         TRANSCRIPT,
         "",
@@ -100,7 +100,7 @@ const PLAIN: &[ResumeRow] = &[
         Change::Call(10),
         "status 3; said: cannot read p.txt\n; no record; no out.csv",
     ),
-    // A fault of the text is told once it has been read to its end.
+    // An invalid transcript is reported only after the whole file is read.
     (
         "transcript 3\n",
         "",
@@ -121,7 +121,7 @@ const PLAIN: &[ResumeRow] = &[
     ),
 ];
 
-// Beginnings from which no auction goes on.
+// Beginnings that `resume` rejects.
 const REFUSED: &[ResumeRow] = &[
     (
         "transcript 3\n",
@@ -165,7 +165,7 @@ const REFUSED: &[ResumeRow] = &[
         Change::Nothing,
         "status 9; said: p.txt: step 0: not valid\n; no record",
     ),
-    // What two workers left open isn't shown by one.
+    // One worker's receipt does not certify a test that two workers left undecided.
     (
         "transcript 1\nstart empty\nfit 1 1 1\nat 1 14\nfit 1 2 1\nat 2 14\nfit 1 3 1\nat 3 15\nfit 2 1 1\nat 1 15\nundecided 2 3 1\nlines 0 1\n13 -1 0 7 2 8 3 12 0\n",
         "",
@@ -182,7 +182,7 @@ fn auctions_go_on(rt: HostRuntime) -> Result<(), Fail> {
     Ok(())
 }
 
-// The third station is tested last by the stations' numbers, and first by their volume.
+// Station 3 is tested last in the order of numbers, and first in the order of volume.
 const VOLUME: &[ResumeRow] = &[
     (
         "transcript 1\n",
@@ -210,7 +210,7 @@ const VOLUME: &[ResumeRow] = &[
     ),
 ];
 
-// The second station starts on air, and the third test asks the same as one round before.
+// Station 2 starts on air, and the third test has the same set as one round before.
 const HIGH: &[ResumeRow] = &[
     (
         "transcript 1\nstart fit 1\n",
@@ -232,7 +232,7 @@ const HIGH: &[ResumeRow] = &[
     ),
 ];
 
-// The start set doesn't fit; in the second table its test is left open.
+// The start set does not fit. In the second table its test is undecided.
 const UNFIT: &[ResumeRow] = &[
     (
         "transcript 1\n",
@@ -265,7 +265,7 @@ fn other_auctions_go_on(rt: HostRuntime) -> Result<(), Fail> {
     Ok(())
 }
 
-// Two workers left the last test open. By them nothing is asked.
+// The same two workers left the last test undecided. The resumed run asks no query.
 const BY_TWO: &[ResumeRow] = &[(
     LEFT_OPEN,
     LEFT_OPEN,
@@ -273,7 +273,8 @@ const BY_TWO: &[ResumeRow] = &[(
     "status 1; said: stations 3\non-air 2\nfrozen 1\nundecided 1\ntotal 60\n; out.csv: facility,outcome,round,price\n1,exit,2,0\n2,exit,1,0\n3,undecided,2,60\n; nothing asked; goes on",
 )];
 
-// One with a budget of one line leaves it open for itself, where it isn't kept, and keeps a proof of two lines.
+// A worker with a budget of one line leaves the last test undecided if the beginning lacks it. The worker's budget does not
+// certify a proof of two lines.
 const BY_ONE: &[ResumeRow] = &[
     (
         "transcript 1\nstart empty\nfit 1 1 1\nat 1 14\nfit 1 2 1\nat 2 14\nfit 1 3 1\nat 3 15\nfit 2 1 1\nat 1 15\n",
@@ -297,7 +298,7 @@ fn by_other_workers(rt: HostRuntime) -> Result<(), Fail> {
     Ok(())
 }
 
-// The parts of the three stations' transcript that are kept whole.
+// The parts of the three stations' transcript, each of which is kept only if it is complete.
 const PARTS: &[&str] = &[
     "transcript 1\n",
     "start empty\n",
@@ -309,7 +310,7 @@ const PARTS: &[&str] = &[
     "end 5\n",
 ];
 
-// How much is kept of so many bytes of it.
+// Returns how many of the first `end` bytes are kept.
 fn kept_of(end: usize) -> usize {
     let mut kept: usize = 0;
     for part in PARTS {
@@ -322,8 +323,8 @@ fn kept_of(end: usize) -> usize {
     kept
 }
 
-// The first length at which a cut of the three stations' transcript leaves anything else than they are settled by, or a
-// transcript that begins otherwise than with what is kept.
+// Returns the first length of a cut of the three stations' transcript after which `resume` is wrong. It is wrong if the result differs,
+// or if the new transcript does not begin with the kept part.
 fn first_otherwise<W: Threads + Wait + Sync>(
     rt: &W,
     alloc: Global,

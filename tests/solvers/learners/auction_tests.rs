@@ -1,4 +1,4 @@
-//! One solver over the queries of whole auctions: what it keeps from query to query changes no answer.
+//! One solver answers the queries of complete auctions. What the solver keeps between queries changes no answer.
 
 use crate::solvers::learners::samples::{ALWAYS, Said, attempted, by_chance, learner, packing};
 use crate::solvers::samples::task_of;
@@ -14,7 +14,7 @@ use std::test::Fail;
 
 const STATIONS: u32 = 12;
 
-// An auction of which the next station is tested: those on air, with channels that the plain search gave them.
+// An auction in progress: the stations on air and their last channels, which the plain search found.
 #[derive(Drop)]
 struct Auction {
     book: Book,
@@ -23,7 +23,7 @@ struct Auction {
 }
 
 impl Auction {
-    // The stations of a book by chance, none of which is on air.
+    // Returns an auction over a pseudorandom book, in which no station is on air.
     fn of(alloc: Global, seed: u64) -> Option<Auction> {
         Some(Auction {
             book: packing(alloc, STATIONS, 3, |s, t, c| by_chance(seed, s, t, c))?,
@@ -32,15 +32,15 @@ impl Auction {
         })
     }
 
-    // The query that tests a station.
+    // Returns the query that tests a station.
     fn query(&self, alloc: Global, station: u32) -> Result<Task, NoMemory> {
         let mut set = Vec::from_slice(alloc, &self.set)?;
         set.push(station)?;
         task_of(alloc, Some(station), &set, self.last.entries())
     }
 
-    // Tests a station, by the solver too where it hears of the query. Where it fits it goes on air if chance has it. Whether the
-    // solver said what the plain search did.
+    // Tests a station by the plain search, and also by the solver if `turn.heard`. If the station fits and `turn.stays`, the station
+    // goes on air. Returns whether the solver agrees with the plain search.
     fn test(
         &mut self,
         alloc: Global,
@@ -73,15 +73,15 @@ impl Auction {
     }
 }
 
-// What chance has of a test: whether the solver hears of it, and whether the station goes on air where it fits.
+// Pseudorandom choices for one test: whether the solver hears the query, and whether a station that fits goes on air.
 #[derive(Clone, Copy)]
 struct Turn {
     heard: bool,
     stays: bool,
 }
 
-// What one solver, whose kept searcher came to this in the end, said over auctions that take turns, of whose queries it hears all
-// or some; none where it once said another thing than the plain search.
+// Runs one solver over `auctions` interleaved auctions and returns its search counters. The solver hears all queries or only some.
+// Returns `None` if the solver once disagrees with the plain search.
 fn searched(alloc: Global, first: u64, auctions: u64, hears_all: bool) -> Option<Searched> {
     let worker = learner(10_000, first);
     let mut solver = Cdcl::new(alloc, &worker).ok()?;

@@ -1,4 +1,4 @@
-//! Solvers and queries that the tests are made of.
+//! Solvers and queries for the tests.
 
 use crate::solvers::samples::book;
 use cdcl_prove::cdcl::Cdcl;
@@ -11,7 +11,7 @@ use pack_defs::book::Book;
 use pack_defs::worker::{Kind, Worker};
 use std::alloc::Global;
 
-// A poll that answers 5, the number of the queries, so many times, and then 6.
+// A poll that answers 5, the number of the queries, `left` times, and then 6.
 #[derive(Drop)]
 struct Turning {
     now: u64,
@@ -36,11 +36,11 @@ impl Poll for Turning {
     }
 }
 
-// As often as any test asks.
+// More answers than any test polls for.
 pub(crate) const ALWAYS: u32 = u32::MAX;
 
-// What an attempt came to, with the number of lines. `Wrong`: its answer was not let through or is one of a walk, the task
-// is no query, or memory ran out.
+// The result of an attempt, with the number of proof lines. `Wrong`: `certify` rejected the answer, the answer is from a walk, the
+// task is no query, or memory ran out.
 #[derive(Clone, Copy, Debug, PartialEq, Eq)]
 pub(crate) enum Said {
     Fit,
@@ -50,8 +50,8 @@ pub(crate) enum Said {
     Wrong,
 }
 
-// What the solver says of a query whose poll answers so many times that it stands, checked by `certify`, which asks no code
-// of the solver.
+// Returns the solver's answer to a query, checked by `certify`, which runs no solver code. The poll reports the query as current
+// `stands` times.
 pub(crate) fn attempted(
     alloc: Global,
     solver: &mut Cdcl,
@@ -98,7 +98,7 @@ pub(crate) fn learner(budget: u32, seed: u64) -> Worker {
     }
 }
 
-// So many stations on so many channels from 14 on, where `apart` says which two may not share which channel.
+// Returns a book of `stations` stations on `channels` channels from 14 on. `apart` decides which two may not share which channel.
 pub(crate) fn packing<F: Fn(u32, u32, u8) -> bool>(
     alloc: Global,
     stations: u32,
@@ -125,7 +125,7 @@ pub(crate) fn packing<F: Fn(u32, u32, u8) -> bool>(
     book(alloc, &domains, &rows)
 }
 
-// Whether two stations may not share a channel, as chance has it: of sixteen about nine may not.
+// Returns a pseudorandom choice: whether two stations may not share a channel, with a probability of 9 in 16.
 pub(crate) fn by_chance(seed: u64, station: u32, other: u32, c: u8) -> bool {
     let key = ((seed << 8 ^ station as u64) << 8 ^ other as u64) << 8 ^ c as u64;
     let once = (key ^ key >> 30).wrapping_mul(0xbf58_476d_1ce4_e5b9);

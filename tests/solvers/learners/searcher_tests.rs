@@ -1,14 +1,15 @@
-//! The kept searcher by itself: without memory it knows nothing and can be used again, and of a long log it says a shorter one.
+//! A searcher that runs out of memory is empty and can be used again. For a long log it searches for a shorter one.
 
 use crate::solvers::learners::samples::packing;
-use kept_search::searcher::{LogLength, Progress, Searcher};
+use kept_search::searcher::{Progress, Searcher};
+use kept_search::suggestion::LogLength;
 use kept_search::suggestion::Suggestion;
 use pack_defs::book::Book;
 use pack_defs::channel_map::ChannelMap;
 use std::alloc::{AllocError as NoMemory, Global};
 use std::test::Fail;
 
-// What a searcher said of a set: that it fits, or that it doesn't by a log of so many lines. `Nothing`: it came to no answer.
+// A searcher's answer for a set: a fit, or a refutation with the length of its log in lines. `Nothing`: no answer.
 #[derive(Clone, Copy, Debug, PartialEq, Eq)]
 enum Told {
     Fit,
@@ -17,7 +18,7 @@ enum Told {
 }
 
 impl Told {
-    // How many lines the log has, where there is one.
+    // Returns the number of lines of the log, if the answer has one.
     fn lines(self) -> Option<usize> {
         match self {
             Told::Unfit(lines) => Some(lines),
@@ -33,7 +34,7 @@ fn told_of(suggestion: &Suggestion) -> Told {
     }
 }
 
-// What a searcher says of these stations, none of which has a channel, with so much effort.
+// Returns a searcher's answer for stations without channels, within a given effort.
 fn asked(
     alloc: Global,
     searcher: &mut Searcher,
@@ -53,12 +54,12 @@ fn asked(
     Ok(Told::Nothing)
 }
 
-// Whether a searcher says that no query is begun.
+// Checks whether a searcher has no current query.
 fn is_empty(alloc: Global, searcher: &mut Searcher, none: &ChannelMap) -> bool {
     matches!(searcher.go_on(alloc, &[], none, 1), Ok(Progress::Lost))
 }
 
-// What a searcher says of these stations. Where memory runs out it is asked once more, unless it is not empty then.
+// Returns a searcher's answer for these stations. If memory runs out and the searcher is empty, asks a second time.
 fn asked_again(
     alloc: Global,
     searcher: &mut Searcher,
@@ -76,7 +77,7 @@ fn asked_again(
     asked(alloc, searcher, book, set, none, effort)
 }
 
-// Six stations on five channels, no two of which may share one. Memory may run out once.
+// Returns a book of six stations on five channels, no two of which may share one. Memory may run out once.
 fn six_on_five(alloc: Global) -> Option<Book> {
     let book = packing(alloc, 6, 5, |_, _, _| true);
     if book.is_some() {
@@ -87,7 +88,7 @@ fn six_on_five(alloc: Global) -> Option<Book> {
 
 const STATIONS: [u32; 6] = [0, 1, 2, 3, 4, 5];
 
-// It is written so that one allocation of it may fail, whichever it is (`rt try --fail-alloc`).
+// Any single allocation of this test may fail (`rt try --fail-alloc`).
 #[test]
 fn a_searcher_without_memory_can_be_used_again(rt: HostRuntime) -> Result<(), Fail> {
     let alloc = rt.alloc();
@@ -98,11 +99,11 @@ fn a_searcher_without_memory_can_be_used_again(rt: HostRuntime) -> Result<(), Fa
     assert_eq!(rt; five, Told::Fit);
     let six = asked_again(alloc, &mut searcher, &book, &STATIONS, &none, 1000)?;
     let long = six.lines().ok_or("not refuted")?;
-    // A log of more lines than a worker may say is searched for once more.
+    // The searcher searches again for a shorter log if the first has more lines than a worker may report.
     let again = asked_again(alloc, &mut searcher, &book, &STATIONS, &none, 100)?;
     let short = again.lines().ok_or("not refuted by less effort")?;
     assert!(rt; long > 100 && short < long, "{short} of {long}");
-    // What it knows is that station 0 is on air, until it forgets that.
+    // Until `forget`, the searcher keeps station 0 on air.
     searcher.forget();
     assert!(rt; is_empty(alloc, &mut searcher, &none));
     let others = asked_again(alloc, &mut searcher, &book, &STATIONS[1..], &none, 1000)?;

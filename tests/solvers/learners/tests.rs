@@ -1,4 +1,4 @@
-//! The solver's tests, each answer of which the check of answers lets through first.
+//! Answers of `Cdcl`. `certify` accepts each answer before a test looks at it.
 
 use crate::solvers::learners::samples::{ALWAYS, Said, attempted, by_chance, learner, packing};
 use crate::solvers::samples::{book, task, task_of};
@@ -14,8 +14,8 @@ const THREE: &str = "DOMAIN,1,14,15\nDOMAIN,2,14,15\nDOMAIN,3,14,15\n";
 
 const APART: &str = "CO,14,14,1,2,3\nCO,14,14,2,3\nCO,15,15,1,2,3\nCO,15,15,2,3\n";
 
-// What one solver of this budget says of the queries of an auction of the three stations, and then of station 3 with the
-// third pair, each in turn.
+// Returns what one solver with this budget answers to six queries in turn. Five are from an auction of the three stations, and the
+// last tests stations 1 and 3.
 fn of_three_stations(alloc: Global, budget: u32) -> Option<[Said; 6]> {
     let book = book(alloc, THREE, APART)?;
     let worker = learner(budget, 0);
@@ -57,12 +57,12 @@ fn a_budget_of_one_line_is_spent_where_there_is_a_conflict(rt: HostRuntime) -> R
     Ok(())
 }
 
-// Station 1 has one channel. While station 2 stands on it and station 3 on the other one of station 2, both have to move.
+// Station 1 has one channel. If station 2 uses that channel, and station 3 the other channel of station 2, both must move.
 const CHAIN: &str = "DOMAIN,1,14\nDOMAIN,2,14,15\nDOMAIN,3,15,16\n";
 
 const LINKS: &str = "CO,14,14,1,2\nCO,15,15,2,3\n";
 
-// What the first looks of one solver answered so far, after each of these queries in turn.
+// Returns the quick-fit counters of one solver after each of these queries in turn.
 fn looked_in_turn(alloc: Global) -> Option<[Looked; 5]> {
     let book = book(alloc, CHAIN, LINKS)?;
     let worker = learner(1000, 0);
@@ -87,8 +87,8 @@ fn looked_in_turn(alloc: Global) -> Option<[Looked; 5]> {
 #[test]
 fn last_fit_answers_the_next_query_of_its_station(rt: HostRuntime) -> Result<(), Fail> {
     let looked = looked_in_turn(rt.alloc()).ok_or("not a fit")?;
-    // By a search, by the last fit, by a free channel, by station 2 that makes way, since the last fit moves station 3 as
-    // well, which is not asked about; and again by the last fit.
+    // In order: the search, the last fit, a free channel, moving station 2, and the last fit again. The fourth query cannot use the
+    // last fit, which also moves station 3, and the query does not contain station 3.
     let want = [(0, 0, 0), (1, 0, 0), (1, 1, 0), (1, 1, 1), (2, 1, 1)];
     for (i, looked) in looked.iter().enumerate() {
         assert_eq!(rt; (looked.last, looked.free, looked.repaired), want[i]);
@@ -96,8 +96,8 @@ fn last_fit_answers_the_next_query_of_its_station(rt: HostRuntime) -> Result<(),
     Ok(())
 }
 
-// What a solver for this worker says of these stations of a book, none of which has a channel yet, where the poll answers
-// so many times that the query stands.
+// Returns what a new solver for this worker answers for these stations, none of which has a channel. The poll reports the query as
+// current `stands` times.
 fn of_all(alloc: Global, book: &Book, worker: &Worker, set: &[u32], stands: u32) -> Option<Said> {
     let mut solver = Cdcl::new(alloc, worker).ok()?;
     let task = task(alloc, set, &[]).ok()?;
@@ -106,7 +106,7 @@ fn of_all(alloc: Global, book: &Book, worker: &Worker, set: &[u32], stands: u32)
 
 const STATIONS: [u32; 10] = [0, 1, 2, 3, 4, 5, 6, 7, 8, 9];
 
-// Whether so many stations, of which no two may share a channel, are refuted on one channel fewer.
+// Checks whether one station more than `channels`, no two of which may share a channel, is refuted.
 fn is_refuted(alloc: Global, channels: u8) -> Option<bool> {
     let count = channels as usize + 1;
     if count > STATIONS.len() {
@@ -132,15 +132,15 @@ fn more_stations_than_channels_are_refuted(rt: HostRuntime) -> Result<(), Fail> 
     Ok(())
 }
 
-// What a solver with this budget and seed says of six stations on five channels, no two of which may share one, where the
-// poll answers so many times that the query stands.
+// Returns what a solver with this budget and seed answers for six stations on five channels, no two of which may share one. The
+// poll reports the query as current `stands` times.
 fn of_six(alloc: Global, budget: u32, seed: u64, stands: u32) -> Option<Said> {
     let book = packing(alloc, 6, 5, |_, _, _| true)?;
     of_all(alloc, &book, &learner(budget, seed), &STATIONS[..6], stands)
 }
 
-// The kept searcher tests one station after the other, of which the first five fit by themselves. At the sixth it spends the
-// budget by one policy and then by another; then as many lines are learnt for a receipt.
+// The incremental searcher tests one station after another, and the first five fit at once. At the sixth station it spends the
+// budget with one policy and then with another. Then it learns as many lines for a receipt.
 #[test]
 fn the_poll_is_asked_before_the_first_conflict_and_then_after_each_16(
     rt: HostRuntime,
@@ -159,7 +159,7 @@ fn the_poll_is_asked_before_the_first_conflict_and_then_after_each_16(
     Ok(())
 }
 
-// How many lines refute the six stations by this seed.
+// Returns the number of lines that refute the six stations with this seed.
 fn lines_by(alloc: Global, seed: u64) -> Option<usize> {
     match of_six(alloc, 100_000, seed, ALWAYS)? {
         Said::Refuted(lines) => Some(lines),
@@ -182,8 +182,8 @@ fn another_seed_searches_differently(rt: HostRuntime) -> Result<(), Fail> {
     Ok(())
 }
 
-// Whether ten stations on three channels are said to fit exactly where the plain search finds a map, and whether they fit. The
-// solver's seed is that of the book.
+// Returns whether the solver agrees with the plain search on ten stations and three channels, and whether they fit. The solver's
+// seed is also the seed of the book.
 fn agrees(alloc: Global, seed: u64) -> Option<(bool, bool)> {
     let book = packing(alloc, 10, 3, |s, t, c| by_chance(seed, s, t, c))?;
     let fit = fits(alloc, &book, &STATIONS).ok()?.is_some();

@@ -1,11 +1,11 @@
-//! Queries that the tests are made of.
+//! Queries for the tests.
 
 use cert_types::task::Task;
 use pack_defs::channel_map::ChannelMap;
 use pack_defs::items::Items;
 use std::alloc::{AllocError as NoMemory, Global};
 
-// Query 5 about the stations that stand on these channels, and the tested one.
+// Returns query 5, whose set is the stations with channels in `last` and the tested station.
 pub(crate) fn task(
     alloc: Global,
     station: Option<u32>,
@@ -26,7 +26,7 @@ pub(crate) fn task(
     })
 }
 
-// The map of these entries, in whatever order.
+// Returns the map of these entries, which may come in any order.
 fn map_of(alloc: Global, entries: &[(u32, u8)]) -> Result<ChannelMap, NoMemory> {
     let mut map = ChannelMap::of(alloc, &[])?;
     for x in entries {

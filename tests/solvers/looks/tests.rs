@@ -1,4 +1,4 @@
-//! What each look finds, and what none finds.
+//! Which queries each kind of quick fit answers, and which queries none answers.
 
 use crate::solvers::looks::samples::task;
 use crate::solvers::samples::book;
@@ -8,16 +8,16 @@ use pack_defs::book::Book;
 use std::alloc::{AllocError as NoMemory, Global};
 use std::test::Fail;
 
-// Station 2 has channel 14 alone. Of stations 1 and 3 two pairs are on 14 and one is on 15; of station 4 one is on 14, and two
-// are on 15.
+// Station 2 has only channel 14. Stations 1 and 3 each have two pairs on 14 and one on 15. Station 4 has one pair on 14 and two
+// on 15.
 const DOMAINS: &str = "DOMAIN,1,14,15\nDOMAIN,2,14\nDOMAIN,3,14,15\nDOMAIN,4,14,15\n";
 
 const ROWS: &str = "CO,14,14,1,2,3\nCO,14,14,2,3,4\nCO,15,15,1,4\nCO,15,15,3,4\n";
 
-// The tested station, the channels that stand, and those that the look which finds a fit changes; none where no look does.
+// The tested station, the last channels, and the entries that the quick fit changes; no entries if no quick fit is found.
 type Row = (Option<u32>, &'static [(u32, u8)], &'static [(u32, u8)]);
 
-// Whether the looks find this.
+// Checks whether the quick fit of this row is found.
 fn find(alloc: Global, looks: &mut FirstLooks, book: &Book, row: Row) -> Result<bool, NoMemory> {
     let (station, last, found) = row;
     let task = task(alloc, station, last)?;
@@ -31,20 +31,20 @@ fn find(alloc: Global, looks: &mut FirstLooks, book: &Book, row: Row) -> Result<
 }
 
 const APART: &[Row] = &[
-    // A free channel; of two, the one that fewer pairs are on.
+    // A free channel; of two free channels, the one with fewer pairs.
     (Some(2), &[], &[(2, 14)]),
     (Some(1), &[(4, 15)], &[(1, 14)]),
     (Some(1), &[(2, 14)], &[(1, 15)]),
     (Some(1), &[], &[(1, 15)]),
     (Some(4), &[], &[(4, 14)]),
-    // A station makes way, whose number is lower or higher.
+    // One station moves, with a number below or above the tested one.
     (Some(2), &[(1, 14)], &[(1, 15), (2, 14)]),
     (Some(2), &[(3, 14)], &[(2, 14), (3, 15)]),
-    // On channel 14 station 3 can't make way, on 15 station 4 can.
+    // On channel 14 station 3 cannot move; on 15 station 4 can.
     (Some(1), &[(3, 14), (4, 15)], &[(1, 15), (4, 14)]),
-    // One station stands in the way and can't make way.
+    // The one station in the way cannot move.
     (Some(2), &[(3, 14), (4, 15)], &[]),
-    // Two stand in the way.
+    // Two stations are in the way.
     (Some(2), &[(3, 14), (4, 14)], &[]),
     // No station is tested.
     (None, &[(1, 14)], &[]),
@@ -62,17 +62,17 @@ fn each_look_finds_its_fit(rt: HostRuntime) -> Result<(), Fail> {
     Ok(())
 }
 
-// Of one `FirstLooks`, in turn.
+// The rows for one `FirstLooks`, in turn.
 const IN_TURN: &[Row] = &[
     (Some(3), &[], &[(3, 15)]),
     (Some(3), &[(1, 14)], &[(3, 15)]),
-    // Station 4 stands on the channel of the last fit.
+    // Station 4 uses the channel of the last fit.
     (Some(3), &[(4, 15)], &[(3, 14)]),
-    // Channel 15 is the one that a look for a free channel finds, and 14 that of the last fit.
+    // A search for a free channel would find 15; the last fit has 14.
     (Some(3), &[], &[(3, 14)]),
     (Some(3), &[(1, 14), (4, 15)], &[(3, 15), (4, 14)]),
     (Some(3), &[(1, 14), (4, 15)], &[(3, 15), (4, 14)]),
-    // The last fit is that of the tested station.
+    // The last fit is kept per tested station.
     (Some(1), &[], &[(1, 15)]),
 ];
 

@@ -1,4 +1,4 @@
-//! Propagation against plain truth tables, over formulas made by chance.
+//! Propagation agrees with truth tables over pseudorandom formulas.
 
 use crate::solvers::trails::samples::{add, backjump, decide, propagate, trail};
 use clause_db::list::ClauseList;
@@ -10,24 +10,24 @@ use trail_prop::plain::PlainTrail;
 use trail_prop::trail::Trail;
 use trail_prop::within::are_within;
 
-// A row of numbers that look random, each made from the one before by Knuth's multiplier.
+// Returns the next number of a pseudorandom sequence (Knuth's multiplier).
 fn next(seed: u64) -> u64 {
     seed.wrapping_mul(6364136223846793005)
         .wrapping_add(1442695040888963407)
 }
 
-// A number below the limit.
+// Returns a pseudorandom number below the limit.
 fn pick(seed: u64, limit: u64) -> u64 {
     (seed >> 33) % limit
 }
 
-// A literal of one of the variables 1 to 6.
+// Returns a pseudorandom literal of one of the variables 1 to 6.
 fn pick_literal(seed: u64) -> i64 {
     let var = pick(seed, 6) as i64 + 1;
     if pick(next(seed), 2) == 0 { var } else { -var }
 }
 
-// Whether the literal is true where the bits are the variables' values.
+// Checks whether the literal is true under the assignment in `bits`.
 fn holds(bits: u64, lit: Lit) -> bool {
     ((bits >> (lit.var % 64)) % 2 == 1) == lit.positive
 }
@@ -68,8 +68,8 @@ fn entries_hold(bits: u64, entries: &[TrailEntry]) -> bool {
     true
 }
 
-// Whether each of the 64 assignments that makes the clauses and the decisions true makes all entries true, and there
-// is none where a clause was found false.
+// Checks all 64 assignments. Each one that satisfies the clauses and the decisions must satisfy all entries. If propagation found
+// a false clause, no assignment may satisfy the clauses and the decisions.
 fn is_sound(trail: &Trail, found: bool) -> bool {
     for half in 0..64 {
         let bits = 2 * half;
@@ -83,7 +83,7 @@ fn is_sound(trail: &Trail, found: bool) -> bool {
     true
 }
 
-// How many literals of the clause are not false, where a true one counts as two.
+// Returns how many literals of the clause are not false; a true literal counts as two.
 fn still_open(trail: &Trail, clause: &[Lit]) -> u64 {
     let mut open: u64 = 0;
     for lit in clause {
@@ -96,7 +96,7 @@ fn still_open(trail: &Trail, clause: &[Lit]) -> u64 {
     open
 }
 
-// Whether some clause has fewer than this many.
+// Checks whether some clause has fewer than `limit` literals by that count.
 fn has_fewer(trail: &Trail, limit: u64) -> bool {
     let clauses = trail.clauses();
     for i in 0..clauses.len() {
@@ -107,12 +107,12 @@ fn has_fewer(trail: &Trail, limit: u64) -> bool {
     false
 }
 
-// Whether propagation found a false clause where there is one, and else left none false and none that forces a literal.
+// Checks that propagation found a false clause exactly if one exists. Without one, no clause may be false or unit.
 fn is_right(trail: &Trail, found: bool) -> bool {
     is_sound(trail, found) && has_fewer(trail, 1) == found && has_fewer(trail, 2) == found
 }
 
-// Adds a clause of one to three literals.
+// Adds a pseudorandom clause of one to three literals.
 fn add_some(alloc: Global, trail: &mut Trail, seed: u64) -> Result<(), NoMemory> {
     let second = next(seed);
     let lits = [
@@ -134,7 +134,7 @@ fn jump_back(trail: &mut Trail, seed: u64) -> bool {
     backjump(trail, level)
 }
 
-// A clause more, a jump back, or a decision.
+// Adds a clause, jumps back, or decides a literal.
 fn step(alloc: Global, trail: &mut Trail, seed: u64) -> Result<(), NoMemory> {
     let kind = pick(seed, 4);
     let seed = next(seed);
@@ -162,7 +162,7 @@ fn decide_plain(plain: &mut PlainTrail, lit: Lit) {
     }
 }
 
-// A plain trail of the same clauses and decisions, with nothing propagated.
+// Returns a plain trail of the same clauses and decisions, with nothing propagated.
 fn plain_of(alloc: Global, trail: &Trail) -> Result<PlainTrail, NoMemory> {
     let mut plain = PlainTrail::new(alloc, ClauseList::new(alloc, 6))?;
     for i in 0..trail.clauses().len() {
@@ -185,14 +185,14 @@ fn same_values(trail: &Trail, plain: &PlainTrail) -> bool {
     true
 }
 
-// Whether a scan of all clauses comes to the same end.
+// Checks whether a scan of all clauses gives the same result.
 fn is_as_scanned(alloc: Global, trail: &Trail, found: bool) -> Result<bool, NoMemory> {
     let mut plain = plain_of(alloc, trail)?;
     let same = plain.propagate().is_some() == found;
     Ok(same && (found || same_values(trail, &plain)))
 }
 
-// Whether propagation is right at each step of a course, which leaves it out at every third.
+// Checks that propagation is right during a run of 40 steps. Every third step is not propagated.
 fn goes_right(alloc: Global, start: u64) -> Result<bool, NoMemory> {
     let mut trail = trail(alloc, 6, &[])?;
     let mut seed = start;

@@ -1,4 +1,4 @@
-//! Literals and formulas that the tests are made of, by their DIMACS numbers.
+//! Literals and formulas for the tests, given by their DIMACS numbers.
 
 use clause_db::list::ClauseList;
 use clause_db::lit::Lit;
@@ -6,7 +6,7 @@ use std::alloc::{AllocError as NoMemory, Global};
 use trail_prop::entry::TrailEntry;
 use trail_prop::trail::Trail;
 
-// A literal as DIMACS CNF writes it: its variable, or the variable's negative.
+// Returns the literal of a DIMACS CNF number: its variable, or the negated variable.
 pub(crate) fn lit(number: i64) -> Lit {
     Lit {
         var: number.unsigned_abs(),
@@ -18,7 +18,7 @@ pub(crate) fn is_within(vars: u32, lit: Lit) -> bool {
     lit.var >= 1 && lit.var <= vars as u64
 }
 
-// A clause of these literals, but for those of no variable.
+// Returns the clause of these literals, except those outside the variables.
 pub(crate) fn clause(alloc: Global, vars: u32, numbers: &[i64]) -> Result<Vec<Lit>, NoMemory> {
     let mut lits = Vec::new(alloc);
     for number in numbers {
@@ -30,7 +30,7 @@ pub(crate) fn clause(alloc: Global, vars: u32, numbers: &[i64]) -> Result<Vec<Li
     Ok(lits)
 }
 
-// The clauses of a DIMACS CNF file: the literals of each, and a 0.
+// Returns the clauses of a DIMACS CNF file: the literals of each clause, ended by a 0.
 pub(crate) fn formula(alloc: Global, vars: u32, numbers: &[i64]) -> Result<ClauseList, NoMemory> {
     let mut list = ClauseList::new(alloc, vars);
     let mut from = 0;
@@ -53,7 +53,7 @@ pub(crate) fn add(alloc: Global, trail: &mut Trail, numbers: &[i64]) -> Result<(
     trail.add(&lits)
 }
 
-// Whether the literal was open, and is decided now.
+// Decides the literal. Returns whether it had no value before.
 pub(crate) fn decide(trail: &mut Trail, number: i64) -> bool {
     let lit = lit(number);
     if !is_within(trail.clauses().vars(), lit) || trail.value(lit.var).is_some() {
@@ -63,7 +63,7 @@ pub(crate) fn decide(trail: &mut Trail, number: i64) -> bool {
     true
 }
 
-// The number of the clause that propagation found false, or 0.
+// Returns the number of the clause that propagation found false, or 0.
 pub(crate) fn propagate(trail: &mut Trail) -> Result<u64, NoMemory> {
     match trail.propagate()? {
         Some(conflict) => Ok(conflict.clause),
@@ -71,7 +71,7 @@ pub(crate) fn propagate(trail: &mut Trail) -> Result<u64, NoMemory> {
     }
 }
 
-// Whether the level was reached, and is the last now.
+// Jumps back. Returns whether the level existed and is now the current one.
 pub(crate) fn backjump(trail: &mut Trail, level: u32) -> bool {
     if level > trail.level() {
         return false;
@@ -84,7 +84,7 @@ pub(crate) fn is_entry(entry: &TrailEntry, number: i64, level: u32, reason: u64)
     entry.lit == lit(number) && entry.level == level && entry.reason.unwrap_or(0) == reason
 }
 
-// Whether this is the entry of its variable.
+// Checks whether this is the entry of its variable.
 pub(crate) fn has_entry(trail: &Trail, number: i64, level: u32, reason: u64) -> bool {
     let lit = lit(number);
     if !is_within(trail.clauses().vars(), lit) {
@@ -96,7 +96,7 @@ pub(crate) fn has_entry(trail: &Trail, number: i64, level: u32, reason: u64) -> 
     }
 }
 
-// Whether these are the entries: each literal with its level and the number of its reason, or 0.
+// Checks whether these are the entries: each literal with its level and the number of its reason, or 0.
 pub(crate) fn shows(trail: &Trail, wanted: &[(i64, u32, u64)]) -> bool {
     let entries = trail.entries();
     if entries.len() != wanted.len() {
@@ -110,7 +110,7 @@ pub(crate) fn shows(trail: &Trail, wanted: &[(i64, u32, u64)]) -> bool {
     true
 }
 
-// Each variable from 1 on implies the next, and so the last.
+// Returns a trail where each variable from 1 on implies the next.
 pub(crate) fn chain(alloc: Global, length: u32) -> Result<Trail, NoMemory> {
     let mut trail = trail(alloc, length, &[])?;
     for at in 1..length {

@@ -1,4 +1,4 @@
-//! Trails by the steps of their use, each with what it has to tell.
+//! Trails, step by step, each step with its expected result.
 
 use crate::solvers::trails::samples::{
     add, backjump, chain, decide, has_entry, is_entry, propagate, shows, trail,
@@ -11,23 +11,23 @@ use trail_prop::trail::Trail;
 // A step on a trail.
 #[derive(Clone, Copy)]
 enum Move<'a> {
-    // The literal was open, and is decided.
+    // Decides a literal that has no value.
     Decide(i64),
-    // Propagation finds the clause of this number false, or none for 0.
+    // Propagation finds the clause of this number false, or none if 0.
     Propagate(u64),
     // Propagation finds some clause false.
     Conflict,
-    // The level was reached, and is the last now.
+    // Jumps back to a level that exists.
     Backjump(u32),
     Add(&'a [i64]),
     // These are the entries: each literal with its level and the number of its reason, or 0.
     Shows(&'a [(i64, u32, u64)]),
     Value(u64, Option<bool>),
-    // This is the entry of its variable, or isn't.
+    // Whether this is the entry of its variable.
     Entry(i64, u32, u64, bool),
 }
 
-// Whether the step tells what it has to.
+// Takes the step and checks its result.
 fn tells(alloc: Global, trail: &mut Trail, step: Move) -> Result<bool, NoMemory> {
     match step {
         Move::Decide(number) => Ok(decide(trail, number)),
@@ -46,7 +46,7 @@ fn tells(alloc: Global, trail: &mut Trail, step: Move) -> Result<bool, NoMemory>
     }
 }
 
-// The first of these steps on a trail of these clauses that tells something else, by its place from 0.
+// Returns the index of the first step with an unexpected result.
 fn first_step(
     alloc: Global,
     vars: u32,
@@ -62,11 +62,11 @@ fn first_step(
     Ok(None)
 }
 
-// A name, the number of variables, the clauses, each with a 0 behind it, and the steps.
+// A name, the number of variables, the clauses, each ended by a 0, and the steps.
 type Told<'a> = (&'a str, u32, &'a [i64], &'a [Move<'a>]);
 
 const TOLD: &[Told] = &[
-    // Station s on channel c is variable 2 * (s - 1) + c, and no two stations may share one.
+    // Variable 2 * (s - 1) + c says that station s is on channel c. No two stations may share a channel.
     (
         "three stations on two channels",
         6,
@@ -182,7 +182,7 @@ const TOLD: &[Told] = &[
             Move::Shows(&[(-1, 1, 0), (2, 1, 1)]),
         ],
     ),
-    // A literal that stands twice is counted twice: it is false or true as any, and never forced.
+    // A literal that occurs twice is counted twice: the clause can be false or true, but it never forces the literal.
     (
         "a literal twice in a clause",
         2,
@@ -198,7 +198,7 @@ const TOLD: &[Told] = &[
     ),
 ];
 
-// The first of these trails with a step that tells something else, and the place of that step from 0.
+// Returns the name of the first trail with an unexpected result, and the index of the step.
 fn first_told<'a>(alloc: Global, told: &[Told<'a>]) -> Result<Option<(&'a str, usize)>, NoMemory> {
     for (name, vars, clauses, steps) in told {
         if let Some(i) = first_step(alloc, *vars, clauses, steps)? {
@@ -214,7 +214,7 @@ fn steps_on_trails(rt: HostRuntime) -> Result<(), Fail> {
     Ok(())
 }
 
-// Whether a chain of a thousand clauses is forced from its first literal on, each entry by the clause before it.
+// Checks that deciding the first literal of the chain forces all 1000 others, each by the clause before.
 fn runs_forward(alloc: Global) -> Result<bool, NoMemory> {
     let mut trail = chain(alloc, 1001)?;
     if !decide(&mut trail, 1) || propagate(&mut trail)? != 0 {
@@ -232,7 +232,7 @@ fn are_in_turn(entries: &[TrailEntry]) -> bool {
     entries.len() == 1001
 }
 
-// Whether the same chain is forced from the opposite of its last literal back.
+// Checks that deciding the negated last literal forces the same chain backwards.
 fn runs_backwards(alloc: Global) -> Result<bool, NoMemory> {
     let mut trail = chain(alloc, 1001)?;
     if !decide(&mut trail, -1001) || propagate(&mut trail)? != 0 {

@@ -1,4 +1,4 @@
-//! Polls, walks and books that the tests are made of.
+//! Polls, walks and books for the tests.
 
 use crate::solvers::samples::book;
 use cert_types::answer::{Answer, Receipt, Refutation};
@@ -11,7 +11,7 @@ use pack_defs::worker::{Kind, Worker};
 use std::alloc::Global;
 use walk_repack::walk::Walk;
 
-// A poll that answers one number, and after so many times another one.
+// A poll that answers `now` for `left` calls, and then `next`.
 #[derive(Drop)]
 pub(crate) struct Turning {
     pub(crate) now: u64,
@@ -37,9 +37,8 @@ impl Poll for Turning {
     }
 }
 
-// What an attempt came to: of a fit how many channels change, and of a receipt how many moves there are, each with the mark
-// of these entries; of a dead pair its stations. `Wrong`: its answer was not let through, the task is no query, or memory
-// ran out.
+// The result of an attempt. A fit has the number of changed channels and the mark of these entries; a receipt has the number and the
+// mark of its moves; a dead pair has its stations. `Wrong`: `certify` rejected the answer, the task is no query, or memory ran out.
 #[derive(Clone, Copy, Debug, PartialEq, Eq)]
 pub(crate) enum Said {
     Fit(usize, u64),
@@ -49,7 +48,7 @@ pub(crate) enum Said {
     Wrong,
 }
 
-// A number made of entries in their order, the last two of which it tells.
+// Returns a checksum of the entries, which depends on their order.
 pub(crate) fn mark_of(entries: &[(u32, u8)]) -> u64 {
     let mut mark: u64 = 0;
     for x in entries {
@@ -58,7 +57,7 @@ pub(crate) fn mark_of(entries: &[(u32, u8)]) -> u64 {
     mark
 }
 
-// What a walk says of a query while the poll answers so, checked by `certify`, which asks no code of the walk.
+// Returns a walk's answer to a query, checked by `certify`, which runs no code of the walk.
 pub(crate) fn attempted(
     alloc: Global,
     worker: &Worker,
@@ -97,7 +96,7 @@ fn kind_of(answer: &Answer) -> Said {
     }
 }
 
-// A poll that answers 5, the number of the queries.
+// Returns a poll that always answers 5, the number of the queries.
 pub(crate) fn steady() -> Turning {
     Turning {
         now: 5,
@@ -114,7 +113,8 @@ pub(crate) fn walker(budget: u32, seed: u64) -> Worker {
     }
 }
 
-// Stations 0 to `stations` on so many channels from 14 on, of which no two that are less than `apart` apart may share one.
+// Returns a book of `stations` stations, numbered from 0, on `channels` channels from 14 on. Two stations whose numbers differ by
+// less than `apart` may not share a channel.
 pub(crate) fn row(alloc: Global, stations: u32, channels: u8, apart: u32) -> Option<Book> {
     let mut domains = String::new(alloc);
     let mut rows = String::new(alloc);

@@ -1,14 +1,14 @@
-//! The walk's tests, each answer of which the check of answers lets through first.
+//! Answers of the walk. `certify` accepts each answer before a test looks at it.
 
 use crate::solvers::samples::{book, task};
 use crate::solvers::walkers::samples::{Said, Turning, attempted, mark_of, row, steady, walker};
 use std::alloc::Global;
 use std::test::Fail;
 
-// Station 1 has channel 14 alone, and 2 may leave it.
+// Station 1 has only channel 14; station 2 may move to 15.
 const TWO: (&str, &str) = ("DOMAIN,1,14\nDOMAIN,2,14,15\n", "CO,14,14,1,2\n");
 
-// No two of three stations may share one of their two channels, and each of two more has one channel, the same.
+// Stations 1 to 3 may not share their two channels. Stations 4 and 5 have only channel 20, which they may not share.
 const FIVE: (&str, &str) = (
     "DOMAIN,1,14,15\nDOMAIN,2,14,15\nDOMAIN,3,14,15\nDOMAIN,4,20\nDOMAIN,5,20\n",
     "CO,14,14,1,2,3\nCO,14,14,2,3\nCO,15,15,1,2,3\nCO,15,15,2,3\nCO,20,20,4,5\n",
@@ -16,7 +16,7 @@ const FIVE: (&str, &str) = (
 
 const THREE: [u32; 3] = [1, 2, 3];
 
-// What a walk of this budget and seed says of a set, while nothing stands.
+// Returns what a walk with this budget and seed answers for a set without channels.
 fn of_set(alloc: Global, files: (&str, &str), set: &[u32], budget: u32, seed: u64) -> Option<Said> {
     let book = book(alloc, files.0, files.1)?;
     let task = task(alloc, set, &[]).ok()?;
@@ -30,7 +30,7 @@ fn the_station_with_a_choice_moves(rt: HostRuntime) -> Result<(), Fail> {
     Ok(())
 }
 
-// How many moves a receipt of the three stations has that `certify` lets through, and their mark.
+// Returns the number of moves and the mark of an accepted receipt for the three stations.
 fn spent(alloc: Global, budget: u32, seed: u64) -> Option<(usize, u64)> {
     match of_set(alloc, FIVE, &THREE, budget, seed)? {
         Said::Spent(moves, mark) => Some((moves, mark)),
@@ -64,7 +64,7 @@ fn a_dead_pair_is_met_among_others(rt: HostRuntime) -> Result<(), Fail> {
     Ok(())
 }
 
-// What a walk says of stations 1 and 2 that stand on two channels.
+// Returns a walk's answer for stations 1 and 2, whose last channels violate no pair.
 fn of_a_clean_map(alloc: Global) -> Option<Said> {
     let book = book(alloc, FIVE.0, FIVE.1)?;
     let task = task(alloc, &[1, 2], &[(1, 15), (2, 14)]).ok()?;
@@ -77,7 +77,7 @@ fn a_clean_last_map_fits_as_it_stands(rt: HostRuntime) -> Result<(), Fail> {
     Ok(())
 }
 
-// What a walk says whose poll answers 5 so many times, and then 6.
+// Returns the answer of a walk whose poll answers 5 `left` times, and then 6.
 fn polled(alloc: Global, left: u32) -> Option<Said> {
     let book = book(alloc, FIVE.0, FIVE.1)?;
     let task = task(alloc, &THREE, &[]).ok()?;
@@ -99,8 +99,8 @@ fn a_poll_that_moved_stops_the_attempt(rt: HostRuntime) -> Result<(), Fail> {
 
 const STATIONS: [u32; 12] = [0, 1, 2, 3, 4, 5, 6, 7, 8, 9, 10, 11];
 
-// Whether twelve stations in a row, of which no two that are less than four apart may share one of four channels, are said
-// to fit.
+// Checks whether a walk finds a fit for twelve stations on four channels. Stations whose numbers differ by less than four may not
+// share a channel.
 fn row_fits(alloc: Global, seed: u64) -> Option<bool> {
     let book = row(alloc, 12, 4, 4)?;
     let task = task(alloc, &STATIONS, &[]).ok()?;

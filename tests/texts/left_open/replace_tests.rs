@@ -1,4 +1,4 @@
-//! A test that was left open, settled by a proof from outside; and logs cut at their first empty line.
+//! An outside proof settles an undecided test, and a log is cut after its first empty line.
 
 use crate::samples::answers::two_lines;
 use crate::samples::books::three_stations;
@@ -18,7 +18,7 @@ use rup_check::lines::Lines;
 use std::alloc::{AllocError as NoMemory, Global};
 use std::test::Fail;
 
-// Whether the record's result is this text.
+// Checks whether the record's result is this text.
 fn tells(alloc: Global, rec: &Record, book: &Book, rows: &[u8]) -> Result<bool, NoMemory> {
     if rec.ending != Ending::Done {
         return Ok(false);
@@ -27,7 +27,7 @@ fn tells(alloc: Global, rec: &Record, book: &Book, rows: &[u8]) -> Result<bool, 
     Ok(text.as_slice() == rows)
 }
 
-// Whether the record has a step of this number, from 1, and it is shown undecided.
+// Checks whether the record has a step of this number, from 1, that is undecided.
 fn is_left_open(rec: &Record, step: u32) -> bool {
     if step == 0 {
         return false;
@@ -38,7 +38,7 @@ fn is_left_open(rec: &Record, step: u32) -> bool {
     }
 }
 
-// The record with the step of this number settled by the log, where it was left open and the log refutes its set.
+// Returns the record with this step settled by the log. Returns `None` if the step is not undecided, or if the log does not refute its set.
 fn settled(
     alloc: Global,
     rec: Record,
@@ -56,7 +56,7 @@ fn settled(
     }
 }
 
-// Whether the step at this place, from 0, is shown by a proof from outside.
+// Checks whether the step at this index is settled by an outside proof.
 fn is_by_proof(rec: &Record, place: usize) -> bool {
     match rec.steps.as_slice().get(place) {
         Some(step) => matches!(step.shown, Shown::Outside(_)),
@@ -64,7 +64,7 @@ fn is_by_proof(rec: &Record, place: usize) -> bool {
     }
 }
 
-// Whether no step is left open.
+// Checks whether no step is undecided.
 fn leaves_none(rec: &Record) -> bool {
     for step in rec.steps.as_slice() {
         if matches!(step.shown, Shown::Undecided(_)) {
@@ -93,7 +93,7 @@ fn a_test_left_open_is_settled(rt: HostRuntime) -> Result<(), Fail> {
     Ok(())
 }
 
-// How many lines are kept of a log whose lines are empty where this says so.
+// Returns how many lines `up_to_empty` keeps of a log. `empty` says which lines are empty.
 fn kept(alloc: Global, empty: &[bool]) -> Result<usize, NoMemory> {
     let lit = Lit {
         var: 0,

@@ -1,4 +1,4 @@
-//! The records of transcripts.
+//! Records of transcripts.
 
 use auction_core::record::Record;
 use pack_defs::book::Book;
@@ -7,7 +7,7 @@ use std::alloc::Global;
 use transcript_check::verify::verify;
 use transcript_text::read::read_transcript;
 
-// The record of this transcript, if it is sound.
+// Returns the record of this transcript, or `None` if the transcript is not valid.
 pub(crate) fn record_in(alloc: Global, sc: &Scenario, book: &Book, text: &[u8]) -> Option<Record> {
     let Ok(transcript) = read_transcript(alloc, text, sc, book) else {
         return None;

@@ -1,4 +1,4 @@
-//! The queries of small auctions' steps, found again in their records.
+//! `task_at` rebuilds the query of a step from the record of a small auction.
 
 use crate::samples::books::{lone_station, three_stations};
 use crate::samples::scenarios::{lone_bid, three_bids_by_one};
@@ -11,10 +11,10 @@ use pack_defs::scenario::Scenario;
 use std::alloc::{AllocError as NoMemory, Global};
 use std::test::Fail;
 
-// A step's query: its number, its round, its station, the set and the map on it.
+// The query of a step: its number, round and station, its set, and its last map.
 type Row<'a> = (u64, u32, u32, &'a [u32], &'a [(u32, u8)]);
 
-// Whether the query of the step of this number is the row's.
+// Checks whether the query of this step is the row's.
 fn is_asked(
     alloc: Global,
     rec: &Record,
@@ -29,7 +29,8 @@ fn is_asked(
     Ok(task.set.as_slice() == row.3 && task.last.entries() == row.4)
 }
 
-// The number, from 1, of the first step whose query is not its row's; 0 where the text shows no record of as many steps.
+// Returns the number, from 1, of the first step whose query differs from its row. Returns 0 if the text has no valid record with as many
+// steps as rows.
 fn first_other(
     alloc: Global,
     sc: &Scenario,
@@ -51,7 +52,7 @@ fn first_other(
     Ok(None)
 }
 
-// The set and the map are those before the step: station 2 asks for itself alone.
+// The set and the map are those before the step; station 2 is tested alone.
 const OF_WHOLE: &[Row] = &[
     (1, 1, 1, &[1], &[]),
     (2, 1, 2, &[2], &[]),
@@ -60,7 +61,7 @@ const OF_WHOLE: &[Row] = &[
     (5, 2, 3, &[1, 2, 3], &[(1, 15), (2, 14)]),
 ];
 
-// The third step needed no query, so that the fourth has the number that it would have had.
+// The third step needed no query. Its query would have had number 4, which is the number of the fourth step's query.
 const OF_BESIDE: &[Row] = &[
     (2, 1, 1, &[1, 2], &[(2, 14)]),
     (3, 1, 3, &[2, 3], &[(2, 14)]),

@@ -1,5 +1,5 @@
-//! Texts both ways: those of a refutation of three stations on two channels, texts in each spelling that is taken, and
-//! texts that are refused, by the first fault.
+//! Reading and writing LRAT texts: a refutation of three stations on two channels, all accepted spellings, and texts that are rejected at
+//! their first error.
 
 use crate::samples::answers::lits;
 use clause_db::list::ClauseList;
@@ -31,12 +31,12 @@ const FORMULA: &[[i64; 2]] = &[
 const FORMULA_TEXT: &[u8] =
     b"p cnf 6 12\n1 2 0\n3 4 0\n5 6 0\n-1 -2 0\n-3 -4 0\n-5 -6 0\n-1 -3 0\n-1 -5 0\n-2 -4 0\n-2 -6 0\n-3 -5 0\n-4 -6 0\n";
 
-// A refutation of it.
+// A refutation of `FORMULA`.
 const LINES: &[(&[i64], &[u64])] = &[(&[-1], &[7, 2, 8, 3, 12]), (&[], &[13, 1, 9, 2, 10, 3, 11])];
 
 const LINES_TEXT: &[u8] = b"13 -1 0 7 2 8 3 12 0\n14 0 13 1 9 2 10 3 11 0\n";
 
-// The numbers of a text are below this one.
+// All numbers of a text are below this bound.
 const TOP: u64 = 9_223_372_036_854_775_808;
 
 fn formula(alloc: Global) -> Result<ClauseList, NoMemory> {
@@ -55,7 +55,7 @@ fn log(alloc: Global, lines: &[(&[i64], &[u64])]) -> Result<Log, NoMemory> {
     Ok(Log { lines: flat })
 }
 
-// The text of a log, its lines numbered on from `first`.
+// Returns the text of a log, with lines numbered from `first`.
 fn written(alloc: Global, first: u64, log: &Log) -> Result<Vec<u8>, LratErr> {
     if first > TOP || log.lines.len() as u64 > TOP - first {
         return Err(LratErr::NoMemory);
@@ -63,14 +63,14 @@ fn written(alloc: Global, first: u64, log: &Log) -> Result<Vec<u8>, LratErr> {
     Ok(write_log(alloc, first, log)?)
 }
 
-// The log of a text over so many clauses, as a text whose lines are numbered from 1. A hint is the place of what it
-// names.
+// Reads a text over this many clauses. Returns the log as a text with lines numbered from 1. A hint is the position of its clause or line,
+// with the clauses first.
 fn read(alloc: Global, clauses: u64, text: &[u8]) -> Result<Vec<u8>, LratErr> {
     let log = read_log(alloc, text, clauses)?;
     written(alloc, 1, &log)
 }
 
-// Whether reading the text gives this.
+// Checks whether the text is read with this outcome.
 fn reads(alloc: Global, clauses: u64, text: &[u8], answer: Result<&[u8], LratErr>) -> bool {
     match (read(alloc, clauses, text), answer) {
         (Ok(said), Ok(wanted)) => said.as_slice() == wanted,
@@ -111,7 +111,7 @@ fn texts_of_nothing(rt: HostRuntime) -> Result<(), Fail> {
     Ok(())
 }
 
-// What a text that is cut behind so many bytes says: so many lines, or nothing.
+// Returns how many lines are read of `LINES_TEXT` cut after this many bytes, or the error.
 fn cut_says(bytes: usize) -> Result<usize, LratErr> {
     match bytes {
         0 => Ok(0),
@@ -147,7 +147,7 @@ const RAT: Result<&[u8], LratErr> = Err(LratErr::RatStep { n: 1 });
 
 const CUT: Result<&[u8], LratErr> = Err(LratErr::Truncated);
 
-// Texts over 12 clauses: what is taken, and as what.
+// Texts over 12 clauses that are accepted, and what is read.
 const TAKEN: &[(&[u8], Result<&[u8], LratErr>)] = &[
     (b"", NONE),
     (b"13 0 1 0\n", ONE),
@@ -165,7 +165,7 @@ const TAKEN: &[(&[u8], Result<&[u8], LratErr>)] = &[
     (b"13 -6 5 -6 0 0\n", Ok(b"1 -6 5 -6 0 0\n")),
 ];
 
-// Texts over 12 clauses that are refused.
+// Texts over 12 clauses that are rejected.
 const REFUSED: &[(&[u8], Result<&[u8], LratErr>)] = &[
     (b"13 -1 0 -7 0\n", RAT),
     (b"12 0 1 0\n", BAD),
@@ -235,7 +235,7 @@ fn what_is_refused(rt: HostRuntime) -> Result<(), Fail> {
     Ok(())
 }
 
-// Texts over so many clauses, at the bounds of numbers.
+// Texts with numbers at their bounds, over this many clauses.
 const BOUNDS: &[(u64, &[u8], Result<&[u8], LratErr>)] = &[
     (12, b"9223372036854775807 0 1 0\n", ONE),
     (12, b"9223372036854775808 0 1 0\n", BAD),

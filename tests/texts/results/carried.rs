@@ -1,4 +1,4 @@
-//! Auctions of the three stations that postings carry through, and the texts of their records.
+//! Auctions of three stations, run by postings, and the texts of their records.
 
 use crate::samples::answers::{FOUR_FITS, Given, THREE_FITS};
 use crate::samples::books::three_stations;
@@ -10,7 +10,7 @@ use pack_defs::order::Order;
 use std::alloc::{AllocError as NoMemory, Global};
 use std::test::Fail;
 
-// In which order a round of the auction tests the stations, the value of the second and the volume of the third.
+// The order of tests in a round, the value of station 2, and the volume of station 3.
 #[derive(Clone, Copy)]
 struct Terms {
     order: Order,
@@ -24,8 +24,7 @@ const TERMS: Terms = Terms {
     volume: 1,
 };
 
-// Whether the three stations' auction on these terms with these answers leaves this channel map, and the texts of its result
-// and summary.
+// Checks whether the auction on these terms, with these answers, leaves this channel map, result and summary.
 fn leaves(
     alloc: Global,
     terms: Terms,
@@ -45,7 +44,7 @@ fn leaves(
     tells(alloc, &rec, &book, rows, counts)
 }
 
-// As `FOUR_FITS`, but that stations 1 and 2 go on the other channel.
+// As `FOUR_FITS`, but with stations 1 and 2 on the other channel.
 const OTHER_FITS: &[Given] = &[
     Given::Fit(1, 14),
     Given::Fit(2, 15),
@@ -54,7 +53,7 @@ const OTHER_FITS: &[Given] = &[
     Given::Refuted,
 ];
 
-// Station 3 is tested first, and its last test is behind that of station 1.
+// Station 3 is tested first, and its last test comes after the last one of station 1.
 const FITS_BY_VOLUME: &[Given] = &[
     Given::Fit(3, 14),
     Given::Fit(1, 14),
@@ -64,8 +63,8 @@ const FITS_BY_VOLUME: &[Given] = &[
     Given::Refuted,
 ];
 
-// The queries are of stations 1, 2 and 3 in round 1, and of 1 and 3 in round 2. Stations 1 and 2 go on air, on either
-// channel: the texts are the same, and the channel map is not.
+// Two assignments of channels give the same result and summary, but different channel maps. The queries are stations 1, 2 and 3 in round 1,
+// and 1 and 3 in round 2. Stations 1 and 2 go on air.
 #[test]
 fn either_way(rt: HostRuntime) -> Result<(), Fail> {
     let alloc = rt.alloc();
@@ -76,8 +75,9 @@ fn either_way(rt: HostRuntime) -> Result<(), Fail> {
     Ok(())
 }
 
-// Station 3, of volume 2, is tested first: in round 2 beside station 2 alone, and after station 1 in round 3, when it has
-// been offered 40 cents. By facility it is tested behind station 1 in round 2, when it has been offered 120.
+// The order of tests decides when station 3 is frozen, and at which price. Station 3 has volume 2. By volume it is tested first: in
+// round 2 with only station 2, and in round 3 after station 1. It is then bought for 40 cents. By facility it is tested after station 1
+// in round 2, and bought for 120 cents.
 #[test]
 fn in_either_order(rt: HostRuntime) -> Result<(), Fail> {
     let alloc = rt.alloc();
@@ -104,8 +104,8 @@ fn in_either_order(rt: HostRuntime) -> Result<(), Fail> {
     Ok(())
 }
 
-// Station 2 is on air from the start, so that station 1 is tested beside it in both rounds. Its second test needs no query,
-// and it goes on air by the fit of its first.
+// A repeated test needs no query. Station 2 is on air from the start, so station 1 is tested with it in both rounds. Station 1 goes on air
+// with the fit of its first test.
 #[test]
 fn a_test_like_the_one_before(rt: HostRuntime) -> Result<(), Fail> {
     let alloc = rt.alloc();

@@ -1,4 +1,4 @@
-//! Records of the three stations' auction, and of one without a station.
+//! Records of the three stations' auction, and of one without stations.
 
 use crate::samples::answers::{one_line, refutation};
 use crate::samples::scenarios::{auction_of, three_bids_by_one};
@@ -11,19 +11,19 @@ use pack_defs::order::Order;
 use pack_defs::scenario::Scenario;
 use std::alloc::{AllocError as NoMemory, Global};
 
-// The set of all three was refuted so.
+// Returns a refutation of the set of all three stations.
 pub(crate) fn refuted(alloc: Global) -> Result<Shown, NoMemory> {
     let how = refutation(alloc)?;
     Ok(Shown::Refuted { worker: 0, how })
 }
 
-// The one worker has derived the first of them, which is all that its budget has.
+// Returns an undecided outcome. The only worker has derived the first line of the refutation, which spends its budget.
 pub(crate) fn undecided(alloc: Global) -> Result<Shown, NoMemory> {
     let receipts = vec![in alloc; Receipt::Lines(one_line(alloc)?)]?;
     Ok(Shown::Undecided(Items::from_vec(receipts)))
 }
 
-// A step that fits, with this channel for its station.
+// Returns a step that fits, with this channel for its station.
 fn fitted(alloc: Global, round: u32, station: u32, channel: u8) -> Result<Step, NoMemory> {
     let map = ChannelMap::of(alloc, &[(station, channel)])?;
     Ok(Step {
@@ -33,7 +33,7 @@ fn fitted(alloc: Global, round: u32, station: u32, channel: u8) -> Result<Step, 
     })
 }
 
-// The steps of the three stations' auction, of which the last was shown so.
+// Returns the steps of the three stations' auction, with `last` as the outcome of the last one.
 fn steps(alloc: Global, last: Shown) -> Result<Vec<Step>, NoMemory> {
     let last = Step {
         round: 2,
@@ -49,7 +49,7 @@ fn steps(alloc: Global, last: Shown) -> Result<Vec<Step>, NoMemory> {
     ]?)
 }
 
-// The record of an auction by facility whose start set is empty.
+// Returns the record of an auction by facility with an empty start set.
 fn done(
     alloc: Global,
     scenario: Scenario,
@@ -68,14 +68,14 @@ fn done(
     })
 }
 
-// The record of the three stations' auction with one worker of this budget, of which the last step was shown so.
+// Returns the record of the three stations' auction, with one worker of this budget and `last` as the outcome of the last step.
 pub(crate) fn record_of_three(alloc: Global, budget: u32, last: Shown) -> Result<Record, NoMemory> {
     let scenario = three_bids_by_one(alloc, 70, 1, budget)?;
     let steps = steps(alloc, last)?;
     done(alloc, scenario, steps, &[(1, 15), (2, 14)], 60)
 }
 
-// The record of an auction of no station.
+// Returns the record of an auction without stations.
 pub(crate) fn record_of_none(alloc: Global) -> Result<Record, NoMemory> {
     let workers = vec![in alloc; learner(1000)]?;
     let scenario = auction_of(alloc, Vec::new(alloc), workers)?;

@@ -1,4 +1,4 @@
-//! The texts of the three stations' auction, and of an auction without a station.
+//! The result, summary and channels of the three stations' auction, and of one without stations.
 
 use crate::samples::books::three_stations;
 use crate::texts::results::samples::{record_of_none, record_of_three, refuted, undecided};
@@ -10,7 +10,7 @@ use result_text::rows::result_csv;
 use std::alloc::{AllocError as NoMemory, Global};
 use std::test::Fail;
 
-// Whether these are the record's result and summary.
+// Checks whether the record has this result and summary.
 pub(crate) fn tells(
     alloc: Global,
     rec: &Record,
@@ -56,7 +56,7 @@ fn no_station(rt: HostRuntime) -> Result<(), Fail> {
     Ok(())
 }
 
-// Whether these are the record's channels.
+// Checks whether the record has these channels.
 fn has_channels(alloc: Global, rec: &Record, text: &[u8]) -> Result<bool, NoMemory> {
     let channels = channels_csv(alloc, rec)?;
     Ok(channels.as_slice() == text)

@@ -1,4 +1,4 @@
-//! Beginnings of transcripts: what is kept of a text that ends anywhere, and why one is refused.
+//! Prefixes of transcripts: what is kept of a text that ends anywhere, and why a text is rejected.
 
 use crate::samples::books::three_stations;
 use crate::samples::scenarios::three_bids_by_one;
@@ -19,17 +19,17 @@ use transcript_text::reader::TranscriptReader;
 #[derive(Clone, Copy)]
 enum Kept {
     Nothing,
-    // The first line, which names this order.
+    // The first line, with this order.
     First(Order),
-    // Tests by facility, a start that puts so many stations on air, and steps of these stations.
+    // Tests by facility, a start with this many stations on air, and steps of these stations.
     Started(usize, &'static [u32]),
-    // The same, and the `end` line.
+    // The same as `Started`, and the `end` line.
     Ended(usize, &'static [u32]),
 }
 
 type Answer = Result<Kept, TextErr>;
 
-// How many stations a start puts on air.
+// Returns how many stations a start puts on air.
 fn on_air(start: &Option<Shown>) -> Option<usize> {
     match start {
         Some(Shown::Empty) => Some(0),
@@ -38,7 +38,7 @@ fn on_air(start: &Option<Shown>) -> Option<usize> {
     }
 }
 
-// Whether the steps are of these stations.
+// Checks whether the steps are of these stations.
 fn are_of(steps: &[TranscriptStep], stations: &[u32]) -> bool {
     if steps.len() != stations.len() {
         return false;
@@ -51,7 +51,7 @@ fn are_of(steps: &[TranscriptStep], stations: &[u32]) -> bool {
     true
 }
 
-// Whether there is no more than the order.
+// Checks whether the prefix has this order and nothing else.
 fn is_unstarted(prefix: &Prefix, order: Option<Order>) -> bool {
     if prefix.order != order || prefix.start.is_some() {
         return false;
@@ -59,7 +59,7 @@ fn is_unstarted(prefix: &Prefix, order: Option<Order>) -> bool {
     prefix.steps.as_slice().is_empty() && !prefix.ended
 }
 
-// Whether there is a start that puts so many stations on air, and steps of these stations.
+// Checks whether the prefix has a start with this many stations on air, and steps of these stations.
 fn is_started(prefix: &Prefix, count: usize, stations: &[u32]) -> bool {
     if prefix.order != Some(Order::ByFacility) || on_air(&prefix.start) != Some(count) {
         return false;
@@ -67,7 +67,7 @@ fn is_started(prefix: &Prefix, count: usize, stations: &[u32]) -> bool {
     are_of(prefix.steps.as_slice(), stations)
 }
 
-// Whether this is what is to be kept.
+// Checks whether the prefix is what is to be kept.
 fn is_kept(prefix: &Prefix, kept: Kept) -> bool {
     match kept {
         Kept::Nothing => is_unstarted(prefix, None),
@@ -77,7 +77,7 @@ fn is_kept(prefix: &Prefix, kept: Kept) -> bool {
     }
 }
 
-// Whether what was read as a beginning is this.
+// Checks whether reading had this outcome.
 fn is_answer(read: Result<Prefix, TextErr>, answer: Answer) -> bool {
     match (read, answer) {
         (Ok(prefix), Ok(kept)) => is_kept(&prefix, kept),
@@ -86,7 +86,7 @@ fn is_answer(read: Result<Prefix, TextErr>, answer: Answer) -> bool {
     }
 }
 
-// What the reader of pieces makes of these, handed out in pieces of so many bytes behind a first one.
+// Reads a text in pieces: the first one of `first` bytes, each later one of `others` bytes.
 fn read_pieces(
     alloc: Global,
     sc: &Scenario,
@@ -102,7 +102,8 @@ fn read_pieces(
     reader.finish_prefix(sc, book)
 }
 
-// Whether reading the text as a beginning gives this: at once, in two pieces cut anywhere, and in pieces of one and of seven bytes.
+// Checks whether the text, read as a prefix, has this outcome. The text is read at once, in two pieces cut anywhere, and in pieces of one
+// and of seven bytes.
 fn keeps(alloc: Global, sc: &Scenario, book: &Book, text: &[u8], answer: Answer) -> bool {
     for cut in 0..text.len() + 1 {
         if !is_answer(read_pieces(alloc, sc, book, text, cut, text.len() + 1), answer) {
@@ -128,7 +129,7 @@ const BAD_3: Answer = Err(TextErr::BadLine { n: 3 });
 
 const BAD_4: Answer = Err(TextErr::BadLine { n: 4 });
 
-// What is kept of the three stations' transcript, by how many whole lines are there: 0 to 15.
+// What is kept of the three stations' transcript, by the number of its complete lines, 0 to 15.
 const OF_THREE: &[Answer] = &[
     NOTHING,
     FIRST,
@@ -148,7 +149,7 @@ const OF_THREE: &[Answer] = &[
     Ok(Kept::Ended(0, &[1, 2, 3, 1, 3])),
 ];
 
-// Of the one with a station on air from the start: 0 to 13.
+// What is kept of the transcript with a station on air from the start, by the number of its complete lines, 0 to 13.
 const OF_BESIDE: &[Answer] = &[
     NOTHING,
     FIRST,
@@ -166,12 +167,12 @@ const OF_BESIDE: &[Answer] = &[
     Ok(Kept::Ended(1, &[1, 3, 1, 3])),
 ];
 
-// How many whole lines a text has.
+// Returns the number of complete lines.
 fn line_ends(text: &[u8]) -> usize {
     text.iter().filter(|byte| **byte == b'\n').count()
 }
 
-// The first length at which a cut of this text is not kept as its whole lines tell.
+// Returns the first length at which a cut of this text is not kept as its complete lines require.
 fn miskept(alloc: Global, text: &[u8], answers: &[Answer]) -> Result<Option<usize>, NoMemory> {
     let book = three_stations(alloc)?;
     let sc = three_bids_by_one(alloc, 70, 1, 1000)?;
@@ -187,7 +188,7 @@ fn miskept(alloc: Global, text: &[u8], answers: &[Answer]) -> Result<Option<usiz
     Ok(None)
 }
 
-// Cut at every byte, and so at every line's end and within every line.
+// What is kept of a cut transcript depends only on its complete lines. The cuts are at every byte.
 #[test]
 fn cut_anywhere(rt: HostRuntime) -> Result<(), Fail> {
     let alloc = rt.alloc();
@@ -196,7 +197,7 @@ fn cut_anywhere(rt: HostRuntime) -> Result<(), Fail> {
     Ok(())
 }
 
-// The first of these texts, each behind this one, that is not kept as it should be.
+// Returns the first of these texts that, after `before`, is not kept as expected.
 fn misread<'a>(
     alloc: Global,
     before: &[u8],
@@ -214,7 +215,7 @@ fn misread<'a>(
     Ok(None)
 }
 
-// Whole texts.
+// Complete texts.
 const WHOLE: &[(&[u8], Answer)] = &[
     (b"", NOTHING),
     (b"transcript 1", NOTHING),
@@ -242,7 +243,7 @@ const WHOLE: &[(&[u8], Answer)] = &[
     (b"transcript 1\nend 0\n", BAD_2),
 ];
 
-// What the texts of steps begin with.
+// The beginning of each text of steps.
 const START: &[u8] = b"transcript 1\nstart empty\n";
 
 // Steps, from the third line on.

@@ -1,4 +1,4 @@
-//! Transcripts in pieces: whatever their cuts, they are read and refused as whole texts.
+//! A transcript that is read in pieces has the same outcome as the complete text, for every cut.
 
 use pack_defs::book::Book;
 use pack_defs::order::Order;
@@ -7,10 +7,10 @@ use std::alloc::Global;
 use transcript_text::TextErr;
 use transcript_text::reader::TranscriptReader;
 
-// What a text is read as: the order of its tests, and how many steps it has.
+// What is read of a text: the order of its tests and the number of its steps.
 pub(crate) type Answer = Result<(Order, usize), TextErr>;
 
-// What the reader makes of a text in two pieces, the second cut into bytes where that is asked.
+// Reads a text in two pieces. If `into_bytes` is set, the second piece is cut into single bytes.
 fn read_cut(
     alloc: Global,
     sc: &Scenario,
@@ -32,7 +32,7 @@ fn read_cut(
     Ok((transcript.order, transcript.steps.as_slice().len()))
 }
 
-// Whether two answers are one.
+// Checks whether two outcomes are equal.
 pub(crate) fn is_same(answer: Answer, other: Answer) -> bool {
     match (answer, other) {
         (Ok(said), Ok(wanted)) => said.0 == wanted.0 && said.1 == wanted.1,
@@ -41,7 +41,7 @@ pub(crate) fn is_same(answer: Answer, other: Answer) -> bool {
     }
 }
 
-// Whether the reader makes this of a text that is cut anywhere into two pieces, or is handed out byte by byte.
+// Checks whether a text has this outcome in any two pieces, and byte by byte.
 pub(crate) fn reads_in_pieces(
     alloc: Global,
     sc: &Scenario,

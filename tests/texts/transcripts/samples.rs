@@ -1,4 +1,4 @@
-//! The transcripts that auctions leave once the first worker's answers carried them through.
+//! The transcripts of auctions that the first worker's answers run to the end.
 
 use crate::samples::answers::Given;
 use crate::samples::books::three_stations;
@@ -11,7 +11,7 @@ use pack_defs::scenario::Scenario;
 use std::alloc::{AllocError as NoMemory, Global};
 use transcript_text::write::write_transcript;
 
-// The transcript of this auction, once these answers carried it through; nothing where they do not.
+// Returns the transcript of this auction, or `None` if these answers do not run it to the end.
 pub(crate) fn written(
     alloc: Global,
     sc: Scenario,
@@ -28,7 +28,7 @@ pub(crate) fn written(
     Ok(Some(write_transcript(alloc, &rec, book)?))
 }
 
-// The transcript of the three stations' auction, where the second has this value and the worker this budget.
+// Returns the transcript of the three stations' auction, with this value of station 2 and this budget of the worker.
 pub(crate) fn of_three(
     alloc: Global,
     value: u64,

@@ -1,4 +1,4 @@
-//! Transcripts both ways: those that auctions leave, and texts that are read or refused, by the first fault.
+//! Writing and reading transcripts: those of auctions, and texts that are accepted or rejected at their first error.
 
 use crate::samples::answers::{FOUR_FITS, Given, THREE_FITS};
 use crate::samples::books::{lone_station, three_stations};
@@ -21,12 +21,12 @@ fn read(alloc: Global, sc: &Scenario, book: &Book, text: &[u8]) -> Answer {
     Ok((transcript.order, transcript.steps.as_slice().len()))
 }
 
-// Whether reading the text gives this, and so does reading it in pieces.
+// Checks whether the text has this outcome, read at once and in pieces.
 fn reads(alloc: Global, sc: &Scenario, book: &Book, text: &[u8], answer: Answer) -> bool {
     is_same(read(alloc, sc, book, text), answer) && reads_in_pieces(alloc, sc, book, text, answer)
 }
 
-// The first of these texts, each behind this one, that is not read as it should be.
+// Returns the first of these texts that, after `before`, is not read as expected.
 fn misread<'a>(
     alloc: Global,
     before: &[u8],
@@ -52,7 +52,7 @@ const SPENT: &[Given] = &[
     Given::Spent,
 ];
 
-// What each of these auctions leaves, and its text.
+// Each of these auctions writes its expected transcript.
 #[test]
 fn what_is_written(rt: HostRuntime) -> Result<(), Fail> {
     let alloc = rt.alloc();
@@ -67,7 +67,7 @@ fn what_is_written(rt: HostRuntime) -> Result<(), Fail> {
     Ok(())
 }
 
-// A station without a channel, both ways.
+// The transcript of a station without a channel is read, and written the same.
 #[test]
 fn no_channel(rt: HostRuntime) -> Result<(), Fail> {
     let alloc = rt.alloc();
@@ -79,7 +79,7 @@ fn no_channel(rt: HostRuntime) -> Result<(), Fail> {
     Ok(())
 }
 
-// The whole text is read, and what is left of it where it is cut is truncated.
+// The complete text is read, and every shorter cut is `Truncated`.
 #[test]
 fn cut_at_every_byte(rt: HostRuntime) -> Result<(), Fail> {
     let alloc = rt.alloc();
@@ -109,14 +109,14 @@ const NONE: Answer = Ok((Order::ByFacility, 0));
 
 const ONE: Answer = Ok((Order::ByFacility, 1));
 
-// By volume, and no step.
+// By volume, without steps.
 const LATER: Answer = Ok((Order::ByVolume, 0));
 
 const CUT: Answer = Err(TextErr::Truncated);
 
 const VERSION: Answer = Err(TextErr::Version);
 
-// The first bad line.
+// The first invalid line.
 const BAD_2: Answer = Err(TextErr::BadLine { n: 2 });
 
 const BAD_3: Answer = Err(TextErr::BadLine { n: 3 });
@@ -127,7 +127,7 @@ const BAD_5: Answer = Err(TextErr::BadLine { n: 5 });
 
 const BAD_6: Answer = Err(TextErr::BadLine { n: 6 });
 
-// Whole texts.
+// Complete texts.
 const WHOLE: &[(&[u8], Answer)] = &[
     (b"", CUT),
     (b"transcript 1", CUT),
@@ -175,7 +175,7 @@ fn first_lines(rt: HostRuntime) -> Result<(), Fail> {
     Ok(())
 }
 
-// What the texts of steps begin with.
+// The beginning of each text of steps.
 const START: &[u8] = b"transcript 1\nstart empty\n";
 
 // Steps without a log, from the third line on.
@@ -258,8 +258,7 @@ fn steps_without_a_log(rt: HostRuntime) -> Result<(), Fail> {
     Ok(())
 }
 
-// Steps with logs, from the third line on. The formula of stations 1 to 3 has 12 clauses, and that of no station has
-// none.
+// Steps with logs, from the third line on. The formula of stations 1 to 3 has 12 clauses; that of an empty set has none.
 const LOGS: &[(&[u8], Answer)] = &[
     (b"log 2 3 0 1\non 1 2 3\n13 -1 0 7 2 0\nend 1\n", ONE),
     (b"log 2 3 0 1\non 1 2 3\n12 0 1 0\n", BAD_5),
@@ -319,7 +318,7 @@ fn steps_with_logs(rt: HostRuntime) -> Result<(), Fail> {
     Ok(())
 }
 
-// What the texts of a receipt's lines begin with: it has two, from the fifth line on.
+// The text before the lines of a receipt. The receipt has two lines, from the fifth line on.
 const RECEIPT: &[u8] = b"transcript 1\nstart empty\nundecided 2 3 1\nlines 0 2\n";
 
 // Lines of a log.

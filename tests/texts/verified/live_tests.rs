@@ -1,4 +1,4 @@
-//! The check of transcripts of live auctions: by what the owners say a step is shown or is not, and by no value.
+//! Verifying transcripts of live auctions: the owners' answers decide whether a step is valid, and values are ignored.
 
 use crate::samples::books::three_stations;
 use crate::samples::owners::{
@@ -19,7 +19,7 @@ use transcript_check::verify::verify_live;
 use transcript_text::TextErr;
 use transcript_text::read::read_transcript;
 
-// What the check finds in a text, in the live auction of these owners.
+// Returns the error that `verify_live` finds in a text, in the live auction of these owners.
 fn found(
     alloc: Global,
     sc: &Scenario,
@@ -34,7 +34,7 @@ fn found(
     }
 }
 
-// Whether the check finds what the row says, where the owners say these lines.
+// Checks whether verification with these answers has the outcome of the row.
 fn is_found(
     alloc: Global,
     sc: &Scenario,
@@ -49,7 +49,7 @@ fn is_found(
     Ok(is_as_said(found, row))
 }
 
-// The place of the first of these rows in which the check finds something else, from 0.
+// Returns the index of the first row with another outcome.
 fn misjudged_live(
     alloc: Global,
     sc: &Scenario,
@@ -65,7 +65,7 @@ fn misjudged_live(
     Ok(None)
 }
 
-// Stations as by `AS_BID`, but that station 2 says so.
+// The same decisions as `AS_BID`, but station 2 answers that it leaves.
 const AS_BID_ALOUD: SaidLines = &[
     (0, 1, true),
     (1, 1, true),
@@ -76,7 +76,7 @@ const AS_BID_ALOUD: SaidLines = &[
     (2, 3, true),
 ];
 
-// The same, but that station 1 leaves in round 1 too.
+// The same, but station 1 leaves in round 1 too.
 const FIRST_TWO_LEAVE: SaidLines = &[
     (0, 1, true),
     (0, 2, true),
@@ -85,11 +85,11 @@ const FIRST_TWO_LEAVE: SaidLines = &[
     (2, 3, true),
 ];
 
-// The transcript where station 1 stays in each round: its last test comes behind the last fall.
+// A transcript in which station 1 stays in each round, so that its last test comes after the last fall.
 const BEHIND_THE_LAST_FALL: &[u8] =
     b"transcript 1\nstart empty\nfit 1 1 1\nat 1 14\nfit 1 2 1\nat 2 14\nfit 1 3 1\nat 3 15\nfit 2 1 1\nat 1 15\nsame 2 3\nlog 3 1 0 2\non 1 2 3\n13 -1 0 7 2 8 3 12 0\n14 0 13 1 9 2 10 3 11 0\nend 6\n";
 
-// What the owners say; a text, its first step that is not shown, and why.
+// The owners' answers, and a text with its first invalid step and the cause.
 const LIVE: &[(SaidLines, Row)] = &[
     (AS_BID, (THREE_STATIONS, 0, SOUND)),
     (AS_BID_ALOUD, (THREE_STATIONS, 0, SOUND)),
@@ -141,7 +141,7 @@ const LIVE: &[(SaidLines, Row)] = &[
     ),
 ];
 
-// Values of 50, 70 and 10, and of 50, 101 and 10: the same is found by either.
+// The owners' answers decide, both with values of 50, 70 and 10 cents and with values of 50, 101 and 10 cents.
 #[test]
 fn owners_say_what_is_shown(rt: HostRuntime) -> Result<(), Fail> {
     let alloc = rt.alloc();
@@ -153,7 +153,7 @@ fn owners_say_what_is_shown(rt: HostRuntime) -> Result<(), Fail> {
     Ok(())
 }
 
-// Transcripts of live auctions, as they are found by the values.
+// Transcripts of live auctions, with their first invalid step if values decide.
 const BY_VALUE: &[Row] = &[(BEHIND_THE_LAST_FALL, 5, KIND), (SECOND_ON_AIR, 0, KIND)];
 
 #[test]

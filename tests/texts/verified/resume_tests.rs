@@ -1,4 +1,4 @@
-//! Auctions that go on from the beginning of a transcript: where they stand, and the first step that is not shown.
+//! Resuming auctions from a prefix of a transcript: where the auction resumes, or the first invalid step.
 
 use crate::samples::books::{lone_station, three_stations};
 use crate::samples::scenarios::{lone_bid, three_bids_by_one};
@@ -12,20 +12,20 @@ use std::alloc::{AllocError as NoMemory, Global};
 use std::test::Fail;
 use transcript_text::beginning::read_prefix;
 
-// Where an auction goes on.
+// Where an auction resumes.
 #[derive(Clone, Copy)]
 enum Stands {
     // At the query of this number.
     At(u64),
-    // At its end, behind the query before this number.
+    // At its end. The number is the last query's plus one.
     Over(u64),
-    // Nowhere: this step is not shown.
+    // Nowhere: this step is invalid.
     Unshown(u64, Option<ShownWhy>),
 }
 
 type Row<'a> = (&'a [u8], Stands);
 
-// Whether the auction stands there, and nothing was posted yet.
+// Checks whether the auction is where the row expects it, without any postings.
 fn is_there(auction: &Auction, stands: Stands) -> bool {
     if auction.posted() != 0 {
         return false;
@@ -37,7 +37,7 @@ fn is_there(auction: &Auction, stands: Stands) -> bool {
     }
 }
 
-// Whether the error is that.
+// Checks whether the error is the expected one.
 fn is_why(e: ResumeErr, stands: Stands) -> bool {
     match (e, stands) {
         (ResumeErr::NotShown { step, why }, Stands::Unshown(wanted, cause)) => {
@@ -47,7 +47,7 @@ fn is_why(e: ResumeErr, stands: Stands) -> bool {
     }
 }
 
-// Whether the auction that goes on from this text, read by one scenario, stands there, in an auction of maybe another.
+// Checks whether an auction resumes from this text as the row expects. `read_by` reads the text; the auction may have another scenario.
 fn goes_on(alloc: Global, read_by: &Scenario, sc: &Scenario, book: &Book, row: Row<'_>) -> bool {
     let Ok(prefix) = read_prefix(alloc, row.0, read_by, book) else {
         return false;
@@ -58,7 +58,7 @@ fn goes_on(alloc: Global, read_by: &Scenario, sc: &Scenario, book: &Book, row: R
     }
 }
 
-// The first of these texts from which the auction goes on otherwise.
+// Returns the first text from which the auction resumes otherwise.
 fn misplaced<'a>(
     alloc: Global,
     read_by: &Scenario,
@@ -74,7 +74,7 @@ fn misplaced<'a>(
     None
 }
 
-// Beginnings of the transcript of three stations, none of which starts on air: its five tests took five queries.
+// Prefixes of the transcript of three stations, none of which starts on air. Each of the five tests took one query.
 const THREE: &[Row] = &[
     (b"", Stands::At(1)),
     (b"transcript 1\n", Stands::At(1)),
@@ -111,7 +111,7 @@ const THREE: &[Row] = &[
     (b"transcript 1\nstart fit 0\n", Stands::Unshown(0, KIND)),
 ];
 
-// The same with the second station on air from the start, which took the first query. The third test needs none.
+// Prefixes of the transcript with station 2 on air from the start. The start took the first query, and the third test needs no query.
 const BESIDE: &[Row] = &[
     (b"", Stands::At(1)),
     (b"transcript 1\nstart fit 1\n", Stands::At(1)),
@@ -171,11 +171,11 @@ fn without_a_query(rt: HostRuntime) -> Result<(), Fail> {
     Ok(())
 }
 
-// The fifth test was left open by two workers.
+// Two workers left the fifth test undecided.
 const OPEN: &[u8] =
     b"transcript 1\nstart empty\nfit 1 1 1\nat 1 14\nfit 1 2 1\nat 2 14\nfit 1 3 1\nat 3 15\nfit 2 1 1\nat 1 15\nundecided 2 3 2\nlines 0 1\n13 -1 0 7 2 8 3 12 0\nmoves 1 1\nmove 3 15\n";
 
-// By the same workers it stays so; by one worker alone it is not shown.
+// An undecided step is valid with the two workers that left it undecided, and invalid with only one worker.
 #[test]
 fn by_other_workers(rt: HostRuntime) -> Result<(), Fail> {
     let alloc = rt.alloc();
@@ -199,7 +199,7 @@ fn by_other_workers(rt: HostRuntime) -> Result<(), Fail> {
     Ok(())
 }
 
-// The first length at which a cut of the three stations' transcript doesn't go on behind as many queries as it has steps.
+// Returns the first length at which a cut of the three stations' transcript does not resume after as many queries as steps.
 fn misnumbered(alloc: Global, text: &[u8]) -> Result<Option<usize>, NoMemory> {
     let book = three_stations(alloc)?;
     let sc = three_bids_by_one(alloc, 70, 1, 1000)?;
@@ -211,7 +211,7 @@ fn misnumbered(alloc: Global, text: &[u8]) -> Result<Option<usize>, NoMemory> {
     Ok(None)
 }
 
-// Whether an auction goes on from this text behind as many queries as it has steps.
+// Checks whether an auction resumes from this text after as many queries as the text has steps.
 fn is_numbered(alloc: Global, sc: &Scenario, book: &Book, text: &[u8]) -> bool {
     let Ok(prefix) = read_prefix(alloc, text, sc, book) else {
         return false;

@@ -1,4 +1,4 @@
-//! What the check of a transcript finds, and an auction by two workers.
+//! Helpers: the outcome of verifying a transcript, and an auction by two workers.
 
 use crate::samples::scenarios::three_bids;
 use crate::samples::workers::{learner, walker};
@@ -12,10 +12,10 @@ use transcript_check::{ShownWhy, VerifyErr};
 use transcript_text::TextErr;
 use transcript_text::read::read_transcript;
 
-// A text, its first step that is not shown, and why; the step counts for nothing where all is shown.
+// A text, its first invalid step, and the cause. The step is ignored if all steps are valid.
 pub(crate) type Row<'a> = (&'a [u8], u64, Option<ShownWhy>);
 
-// What the check finds in a text that is read by one scenario, in an auction of maybe another.
+// Returns the error that `verify` finds in a text. `read_by` reads the text; the auction may have another scenario.
 fn found(
     alloc: Global,
     read_by: &Scenario,
@@ -30,7 +30,7 @@ fn found(
     }
 }
 
-// Whether what was found is what the row says.
+// Checks whether the outcome is the row's.
 pub(crate) fn is_as_said(found: Option<VerifyErr>, row: Row<'_>) -> bool {
     match (found, row.2) {
         (None, None) => true,
@@ -39,7 +39,7 @@ pub(crate) fn is_as_said(found: Option<VerifyErr>, row: Row<'_>) -> bool {
     }
 }
 
-// Whether the check finds what the row says, in its text behind this one.
+// Checks whether the text of the row, after `before`, has the outcome of the row.
 fn is_found(
     alloc: Global,
     read_by: &Scenario,
@@ -56,7 +56,7 @@ fn is_found(
     Ok(is_as_said(found, row))
 }
 
-// The first of these texts, each behind this one, in which the check finds something else.
+// Returns the first text that, after `before`, has another outcome.
 pub(crate) fn misjudged<'a>(
     alloc: Global,
     read_by: &Scenario,
@@ -73,7 +73,7 @@ pub(crate) fn misjudged<'a>(
     Ok(None)
 }
 
-// All is shown.
+// All steps are valid.
 pub(crate) const SOUND: Option<ShownWhy> = None;
 
 pub(crate) const ORDER: Option<ShownWhy> = Some(ShownWhy::Order);
@@ -90,7 +90,7 @@ pub(crate) const APART: Option<ShownWhy> = Some(ShownWhy::NotValid(Place::PairOf
     b: 14,
 })));
 
-// The auction of stations 1 to 3 by a worker that learns and one that walks, each of which may spend one line or move.
+// Returns the auction of stations 1 to 3 by a learner and a walker. Their budgets are one line and one move.
 pub(crate) fn two_workers(alloc: Global) -> Result<Scenario, NoMemory> {
     let workers = vec![in alloc; learner(1), walker(1)]?;
     three_bids(alloc, 70, 1, workers)

@@ -1,4 +1,4 @@
-//! The check of transcripts: those that are sound, and those of which a step is not shown, by the first one.
+//! Verifying transcripts: valid ones are accepted, and others are rejected at their first invalid step.
 
 use crate::samples::books::{lone_station, three_stations};
 use crate::samples::scenarios::{lone_bid, three_bids_by_one};
@@ -24,7 +24,7 @@ const LINE_2: Option<ShownWhy> = Some(ShownWhy::NotValid(Place::LineAt(2)));
 
 const MOVE_1: Option<ShownWhy> = Some(ShownWhy::NotValid(Place::MoveAt(1)));
 
-// Whole transcripts, in which round 1 tests stations 1 to 3 and round 2 stations 1 and 3.
+// Complete transcripts. Round 1 tests stations 1 to 3, and round 2 stations 1 and 3.
 const WHOLE: &[Row] = &[
     (THREE_STATIONS, 0, SOUND),
     (b"transcript 1\nstart empty\nend 0\n", 1, ORDER),
@@ -48,11 +48,11 @@ const WHOLE: &[Row] = &[
     (b"transcript 1\nstart fit 1\nat 2 14\nend 0\n", 0, KIND),
 ];
 
-// Three steps, which are shown.
+// Three valid steps.
 const BEFORE_4: &[u8] =
     b"transcript 1\nstart empty\nfit 1 1 1\nat 1 14\nfit 1 2 1\nat 2 14\nfit 1 3 1\nat 3 15\n";
 
-// What follows them. The fourth step tests station 1 beside station 2, which is on channel 14.
+// Texts after `BEFORE_4`. The fourth step tests station 1 with station 2, which is on channel 14.
 const FOURTH: &[Row] = &[
     (b"end 3\n", 4, ORDER),
     (b"fit 2 2 1\nat 2 15\nend 4\n", 4, ORDER),
@@ -71,11 +71,11 @@ const FOURTH: &[Row] = &[
     (b"dead 2 1 0 1 14 2 14\nend 4\n", 4, APART),
 ];
 
-// Four steps, which are shown.
+// Four valid steps.
 const BEFORE_5: &[u8] =
     b"transcript 1\nstart empty\nfit 1 1 1\nat 1 14\nfit 1 2 1\nat 2 14\nfit 1 3 1\nat 3 15\nfit 2 1 1\nat 1 15\n";
 
-// What follows them. The fifth step tests station 3 beside the others, which are on both channels.
+// Texts after `BEFORE_5`. The fifth step tests station 3 with the other two, which use both channels.
 const FIFTH: &[Row] = &[
     (b"end 4\n", 5, ORDER),
     (
@@ -136,7 +136,7 @@ fn rounds_by_facility(rt: HostRuntime) -> Result<(), Fail> {
     Ok(())
 }
 
-// Rounds that test station 3 first, which has the greatest volume.
+// Rounds that test station 3 first, because it has the greatest volume.
 const BY_VOLUME: &[Row] = &[
     (
         b"transcript 2\nstart empty\nfit 1 3 1\nat 3 14\nfit 1 1 1\nat 1 14\nfit 1 2 1\nat 2 14\nfit 2 3 1\nat 3 15\nfit 2 1 1\nat 1 15\nlog 3 3 0 2\non 1 2 3\n13 -1 0 7 2 8 3 12 0\n14 0 13 1 9 2 10 3 11 0\nend 6\n",
@@ -179,7 +179,7 @@ fn rounds_by_volume(rt: HostRuntime) -> Result<(), Fail> {
     Ok(())
 }
 
-// That transcript, and others of the same auction.
+// `SECOND_ON_AIR`, and other transcripts of the same auction.
 const BESIDE: &[Row] = &[
     (SECOND_ON_AIR, 0, SOUND),
     (
@@ -231,7 +231,7 @@ fn a_start_set_that_fits(rt: HostRuntime) -> Result<(), Fail> {
     Ok(())
 }
 
-// What two workers say of the fifth step, each with one line or move.
+// Texts of the fifth step by two workers, each with a budget of one line or move.
 const BY_TWO: &[Row] = &[
     (
         b"undecided 2 3 2\nlines 0 1\n13 -1 0 7 2 8 3 12 0\nmoves 1 1\nmove 3 15\nend 5\n",
@@ -280,7 +280,7 @@ const BY_TWO: &[Row] = &[
     ),
 ];
 
-// The same where the scenario has one worker alone.
+// Texts of the fifth step by two workers, in a scenario with only one worker.
 const BY_A_STRANGER: &[Row] = &[
     (
         b"log 2 3 1 2\non 1 2 3\n13 -1 0 7 2 8 3 12 0\n14 0 13 1 9 2 10 3 11 0\nend 5\n",

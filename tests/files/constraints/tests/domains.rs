@@ -1,4 +1,4 @@
-//! Texts of domains that are read, and texts that are refused.
+//! Texts of the domain file that are accepted or rejected.
 
 use crate::files::constraints::tests::{LENGTHS, fed_domains, first_domains};
 use constraint_files::domains::{DomainReader, read_domains};
@@ -39,7 +39,7 @@ fn domains_that_are_read(rt: HostRuntime) -> Result<(), Fail> {
     Ok(())
 }
 
-// Whether the domains of the text are refused so, in one and in pieces.
+// Checks whether the text's domains are rejected with this error, at once and in pieces.
 fn is_refused(alloc: Global, text: &[u8], want: ReadErr) -> bool {
     for length in LENGTHS {
         if fed_domains(alloc, text, *length).err() != Some(want) {
@@ -49,7 +49,7 @@ fn is_refused(alloc: Global, text: &[u8], want: ReadErr) -> bool {
     read_domains(alloc, text).err() == Some(want)
 }
 
-// The first of these texts of domains that is not refused for this row and cause, by its place from 0.
+// Returns the index of the first text that is not rejected for this row and cause.
 fn first_read(alloc: Global, cases: &[(&[u8], u64, RowWhy)]) -> Option<usize> {
     for (i, (text, line, why)) in cases.iter().enumerate() {
         let want = ReadErr::Row {
@@ -107,7 +107,7 @@ fn domains_that_are_refused(rt: HostRuntime) {
     assert_eq!(rt; first_read(rt.alloc(), CASES), None);
 }
 
-// Which of these pieces is refused, counted from 0, and why. The end of the file stands behind them.
+// Returns the index of the first rejected piece, and the error. The end of the file counts as one more piece.
 fn refused_piece(alloc: Global, pieces: &[&[u8]]) -> Option<(usize, ReadErr)> {
     let Ok(mut reader) = DomainReader::make(alloc) else {
         return None;
@@ -122,7 +122,7 @@ fn refused_piece(alloc: Global, pieces: &[&[u8]]) -> Option<(usize, ReadErr)> {
     Some((pieces.len(), why))
 }
 
-// The first of these rows whose pieces are taken or refused otherwise: the piece, the line and the cause.
+// Returns the index of the first row whose pieces have another outcome than the expected piece, line and cause.
 fn first_pieces(
     alloc: Global,
     cases: &[(&[&[u8]], Option<(usize, u64, RowWhy)>)],

@@ -1,4 +1,4 @@
-//! Texts of pairs that are read, and texts that are refused.
+//! Texts of the row file that are accepted or rejected.
 
 use crate::files::constraints::tests::{LENGTHS, THREE_STATIONS, fed_pairs, first_pairs};
 use constraint_files::domains::{Domains, read_domains};
@@ -69,7 +69,7 @@ fn rows_that_are_read(rt: HostRuntime) -> Result<(), Fail> {
     Ok(())
 }
 
-// Whether the pairs of the text over these domains are refused so, in one and in pieces.
+// Checks whether the text's pairs over these domains are rejected with this error, at once and in pieces.
 fn is_refused(alloc: Global, domains: &Domains, text: &[u8], want: ReadErr) -> bool {
     for length in LENGTHS {
         if fed_pairs(alloc, domains, text, *length).err() != Some(want) {
@@ -79,7 +79,7 @@ fn is_refused(alloc: Global, domains: &Domains, text: &[u8], want: ReadErr) -> b
     read_pairs(alloc, text, domains).err() == Some(want)
 }
 
-// The first of these texts of pairs over the three stations that is not refused so, by its place from 0.
+// Returns the index of the first text that is not rejected for this row and cause, over the three stations.
 fn first_read_pairs(alloc: Global, cases: &[(&[u8], u64, RowWhy)]) -> Option<usize> {
     let Ok(domains) = read_domains(alloc, THREE_STATIONS) else {
         return Some(0);

@@ -1,4 +1,4 @@
-//! What is read of texts that are accepted.
+//! What the reader returns for accepted scenarios.
 
 use crate::files::scenarios::tests::{TEXT, WORKERS, changed, first_not, first_value};
 use pack_defs::fall::Fall;
@@ -8,7 +8,7 @@ use scenario_json::scenario::read_scenario;
 use std::alloc::{AllocError as NoMemory, Global};
 use std::test::Fail;
 
-// The decrements; none where the price falls by rate.
+// Returns the decrements, which are empty if the price falls by rate.
 fn decrements_of(scenario: &Scenario) -> &[u32] {
     match &scenario.fall {
         Fall::Listed(decrements) => decrements.as_slice(),
@@ -16,7 +16,7 @@ fn decrements_of(scenario: &Scenario) -> &[u32] {
     }
 }
 
-// Whether the text's numbers and decrements are read.
+// Checks whether the text's numbers and decrements are read.
 fn reads_numbers(alloc: Global) -> bool {
     let Ok(scenario) = read_scenario(alloc, TEXT.as_bytes()) else {
         return false;
@@ -27,7 +27,7 @@ fn reads_numbers(alloc: Global) -> bool {
         && decrements_of(&scenario) == [40, 40].as_slice()
 }
 
-// Whether these stations, with their volumes and values, are read of the text with one part of it changed.
+// Checks whether the text with one part replaced has these stations, with their volumes and values.
 fn reads_stations(
     alloc: Global,
     part: &str,
@@ -62,7 +62,7 @@ fn reads_three_stations(rt: HostRuntime) -> Result<(), Fail> {
     Ok(())
 }
 
-// Whether these workers are read of the text with this list of them.
+// Checks whether the text with this list of workers has these workers.
 fn reads_workers(
     alloc: Global,
     list: &str,
@@ -110,7 +110,7 @@ fn reads_stations_in_any_order(rt: HostRuntime) -> Result<(), Fail> {
     Ok(())
 }
 
-// The first row whose value of station 1 isn't read so, by what stands in place of its member.
+// Returns the replacement of the first row with another value of station 1.
 fn first_value_otherwise<'a>(
     alloc: Global,
     rows: &[(&'a str, Option<u64>)],
@@ -138,7 +138,7 @@ fn reads_values(rt: HostRuntime) -> Result<(), Fail> {
     Ok(())
 }
 
-// The rate and the floor; none where the price falls by a list.
+// Returns the rate and the floor, or `None` if the price falls by a list.
 fn rate_and_floor(scenario: &Scenario) -> Option<(u32, u32)> {
     match &scenario.fall {
         Fall::Listed(_) => None,
@@ -146,10 +146,10 @@ fn rate_and_floor(scenario: &Scenario) -> Option<(u32, u32)> {
     }
 }
 
-// A change of the text, the version that is read of it, and the rate and floor.
+// A part of the text, its replacement, and the version, rate and floor that are read.
 type FallRow<'a> = (&'a str, &'a str, u32, Option<(u32, u32)>);
 
-// Whether the changed text is read so, with no line of an owner.
+// Checks whether the changed text is read with this version, rate and floor, and without owners.
 fn reads_fall(alloc: Global, row: &FallRow<'_>) -> Result<bool, NoMemory> {
     let (part, other, version, by_rate) = *row;
     let Some(text) = changed(alloc, part, other)? else {
@@ -165,7 +165,7 @@ fn reads_fall(alloc: Global, row: &FallRow<'_>) -> Result<bool, NoMemory> {
     )
 }
 
-// The first row that is read otherwise, by what stands in place of the part.
+// Returns the replacement of the first row that is read otherwise.
 fn first_fall_otherwise<'a>(
     alloc: Global,
     rows: &[FallRow<'a>],
@@ -178,7 +178,7 @@ fn first_fall_otherwise<'a>(
     Ok(None)
 }
 
-// What tells the fall of the other version is passed over, whatever it holds.
+// The reader ignores the members of the other version's price fall, whatever they hold.
 #[test]
 fn reads_the_fall_of_its_version(rt: HostRuntime) -> Result<(), Fail> {
     const ROWS: &[FallRow<'static>] = &[
@@ -254,7 +254,8 @@ fn accepts_the_limits_themselves(rt: HostRuntime) -> Result<(), Fail> {
     Ok(())
 }
 
-// The first value that keeps the text from being accepted, as a member of another name ahead of one of these three.
+// Returns the first value with which the text is not accepted. The value belongs to a member with an unknown name, placed before one of
+// three known members.
 fn first_not_passed_over<'a>(
     alloc: Global,
     values: &[&'a str],

@@ -1,4 +1,4 @@
-//! The book of a scenario.
+//! The book that joins a scenario with its two files.
 
 use crate::files::scenarios::tests::TEXT;
 use constraint_files::domains::read_domains;
@@ -9,7 +9,7 @@ use scenario_json::join::{JoinErr, join};
 use scenario_json::scenario::read_scenario;
 use std::alloc::Global;
 
-// The book of the text with these two files, if they and the text are read.
+// Joins the text with these two files. Returns `None` if one of the three is rejected.
 fn joined(alloc: Global, domains: &[u8], rows: &[u8]) -> Option<Result<Book, JoinErr>> {
     let Ok(scenario) = read_scenario(alloc, TEXT.as_bytes()) else {
         return None;
@@ -23,7 +23,7 @@ fn joined(alloc: Global, domains: &[u8], rows: &[u8]) -> Option<Result<Book, Joi
     Some(join(alloc, &scenario, &domains, &pairs))
 }
 
-// Whether the book is of stations 1 to 3, with what is left of their channels and this pair alone.
+// Checks whether the book has exactly stations 1 to 3, their channels up to the top one, and this one pair.
 fn is_cut(book: &Book, only: Pair) -> bool {
     if book.len() != 3 || book.top() != 15 {
         return false;
@@ -35,7 +35,7 @@ fn is_cut(book: &Book, only: Pair) -> bool {
         && book.pairs() == [only].as_slice()
 }
 
-// Whether the files are cut so.
+// Checks whether the two files join to the book that `is_cut` describes.
 fn cuts(alloc: Global, domains: &[u8], rows: &[u8], only: Pair) -> bool {
     match joined(alloc, domains, rows) {
         Some(Ok(book)) => is_cut(&book, only),
@@ -56,7 +56,7 @@ fn cuts_the_files_to_the_scenario(rt: HostRuntime) {
     assert!(rt; cuts(rt.alloc(), domains, rows, only));
 }
 
-// Whether the book is refused for want of the station's domain.
+// Checks whether the join fails because this station has no domain.
 fn is_missing(alloc: Global, domains: &[u8], station: u32) -> bool {
     match joined(alloc, domains, b"") {
         Some(Err(why)) => why == JoinErr::MissingDomain(station),
@@ -64,7 +64,7 @@ fn is_missing(alloc: Global, domains: &[u8], station: u32) -> bool {
     }
 }
 
-// The first row that is answered otherwise, by the text of its file.
+// Returns the file of the first row with another outcome.
 fn first_otherwise<'a>(alloc: Global, rows: &[(&'a str, u32)]) -> Option<&'a str> {
     for (file, station) in rows {
         if !is_missing(alloc, file.as_bytes(), *station) {

@@ -1,4 +1,4 @@
-//! Members that are missing, and members of the wrong kind.
+//! Missing members, and members of the wrong kind.
 
 use crate::files::scenarios::tests::{
     DECREMENTS, Fault, STATIONS, TEXT, WORKERS, first_otherwise, first_place,
@@ -6,7 +6,7 @@ use crate::files::scenarios::tests::{
 use scenario_json::name::Name;
 use std::test::Fail;
 
-// No whole number from 0 to 2^64 - 1, written without point or exponent.
+// Values that are not an integer from 0 to 2^64 - 1 without point or exponent.
 const NOT_NUMBERS: &[&str] = &[
     "true",
     "false",
@@ -138,7 +138,7 @@ fn numbers_of_the_wrong_kind(rt: HostRuntime) -> Result<(), Fail> {
     Ok(())
 }
 
-// Only a value may be null, and a kind is a text.
+// A member of the wrong kind is rejected. Only `value` may be null, and `kind` must be a string.
 #[test]
 fn members_of_the_wrong_kind(rt: HostRuntime) -> Result<(), Fail> {
     const ROWS: &[(&str, &str, Option<Fault>)] = &[
@@ -215,7 +215,7 @@ fn lists_of_the_wrong_kind(rt: HostRuntime) -> Result<(), Fail> {
     Ok(())
 }
 
-// A station or a worker that is no object has the name of its list.
+// A station or a worker that is no object is rejected under the name of its list.
 #[test]
 fn items_of_the_wrong_kind(rt: HostRuntime) -> Result<(), Fail> {
     const VALUES: &[&str] = &["null", "true", "1", r#""x""#, "[]"];

@@ -132,7 +132,7 @@ fn members_out_of_their_limits(rt: HostRuntime) -> Result<(), Fail> {
     Ok(())
 }
 
-// Lines of a cdcl worker, and moves of a walk.
+// A budget outside the limits of its kind is rejected: lines for `cdcl`, moves for `walk`.
 #[test]
 fn budgets_out_of_the_limits_of_their_kind(rt: HostRuntime) -> Result<(), Fail> {
     const ROWS: &[(&str, &str, Option<Fault>)] = &[
@@ -181,7 +181,7 @@ fn budgets_out_of_the_limits_of_their_kind(rt: HostRuntime) -> Result<(), Fail> 
     Ok(())
 }
 
-// A list of this item so many times.
+// Returns a list that repeats this item.
 fn repeated(alloc: Global, item: &str, count: usize) -> Result<String, NoMemory> {
     let mut list = String::new(alloc);
     for i in 0..count {
@@ -192,7 +192,7 @@ fn repeated(alloc: Global, item: &str, count: usize) -> Result<String, NoMemory>
     Ok(list)
 }
 
-// A list of the stations 0 to one below the number.
+// Returns a list of `count` stations, numbered from 0.
 fn numbered(alloc: Global, count: usize) -> Result<String, NoMemory> {
     let mut list = String::new(alloc);
     for i in 0..count {
@@ -203,7 +203,7 @@ fn numbered(alloc: Global, count: usize) -> Result<String, NoMemory> {
     Ok(list)
 }
 
-// Whether a text with lists of so many decrements, stations and workers is refused for this fault, and accepted for `None`.
+// Checks whether a text with this many decrements, stations and workers is rejected for this cause, or accepted for `None`.
 fn is_said(
     alloc: Global,
     decrements: usize,
@@ -220,7 +220,7 @@ fn is_said(
     Ok(says(alloc, text.as_bytes(), fault))
 }
 
-// The first row of three lengths that is answered otherwise, by its place from 0.
+// Returns the index of the first row of lengths with another outcome.
 fn first_length(
     alloc: Global,
     rows: &[(usize, usize, usize, Option<Fault>)],
@@ -247,7 +247,7 @@ fn lists_by_their_length(rt: HostRuntime) -> Result<(), Fail> {
     Ok(())
 }
 
-// The first list that is not refused for its length, where so many nulls stand in its place.
+// Returns the first list that is not rejected for its length when `count` nulls replace it.
 fn first_of_nulls<'a>(
     alloc: Global,
     rows: &[(&'a str, usize, Name)],
@@ -262,7 +262,7 @@ fn first_of_nulls<'a>(
     Ok(None)
 }
 
-// The length of a list is looked at before its items.
+// The length of a list is checked before its items.
 #[test]
 fn length_before_items(rt: HostRuntime) -> Result<(), Fail> {
     const ROWS: &[(&str, usize, Name)] = &[

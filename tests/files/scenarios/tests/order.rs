@@ -1,4 +1,4 @@
-//! Of two faults, the one that is met first.
+//! The first of two errors is reported.
 
 use crate::files::scenarios::tests::{Fault, WORKERS, first_otherwise};
 use scenario_json::name::Name;
@@ -194,7 +194,7 @@ fn members_of_a_worker_in_order(rt: HostRuntime) -> Result<(), Fail> {
     Ok(())
 }
 
-// That no worker is of kind "cdcl" is told after the last of them.
+// A scenario without a `cdcl` worker is rejected after its last worker is read.
 #[test]
 fn workers_without_a_cdcl_worker(rt: HostRuntime) -> Result<(), Fail> {
     const ROWS: &[(&str, &str, Option<Fault>)] = &[

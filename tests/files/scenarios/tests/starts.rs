@@ -1,4 +1,4 @@
-//! The scenario of the start set alone.
+//! The scenario of only the start set.
 
 use pack_defs::fall::Fall;
 use pack_defs::owners::{OwnerLine, Owners};
@@ -8,25 +8,25 @@ use scenario_json::start_only::start_only;
 use std::alloc::{AllocError as NoMemory, Global};
 use std::test::Fail;
 
-// What stands before the stations, where the price falls by a list and by rate, and what stands behind them.
+// The text before the stations, with a price that falls by a list or by rate, and the text after the stations.
 const LISTED: &str = r#"{"version":1,"top":20,"opening":100,"decrements":[40,40],"stations":"#;
 
 const RATED: &str = r#"{"version":2,"top":20,"opening":100,"rate":400,"floor":200,"stations":"#;
 
 const WORKERS: &str = r#","workers":[{"kind":"walk","budget":7},{"kind":"cdcl","budget":1000}]}"#;
 
-// Values none, above, equal to and below the opening offers, which are 100 and 300.
+// No value, and values above, at and below the opening offers. These are 100 and 300.
 const STATIONS: &str =
     r#"[{"id":7,"volume":3,"value":101},{"id":1,"volume":1},{"id":2,"volume":1,"value":101},{"id":3,"volume":1,"value":100},{"id":4,"volume":1,"value":99},{"id":5,"volume":3,"value":300},{"id":6,"volume":3,"value":301},{"id":8,"volume":3,"value":null}]"#;
 
-// None of these declines.
+// None of these stations declines the opening offer.
 const TAKERS: &str = r#"[{"id":1,"volume":1,"value":100},{"id":2,"volume":1,"value":0}]"#;
 
-// Which of the stations start alone, up to which top channel.
+// A scenario, a top channel, and the stations that `start_only` keeps.
 struct Row {
     fall: &'static str,
     stations: &'static str,
-    // What the owners say, if they say it in the place of the values: the round, the station, whether it stays.
+    // The owners' lines, if the auction is live: the round, the station, whether it stays.
     lines: Option<&'static [(u32, u32, bool)]>,
     top: u8,
     left: &'static [u32],
@@ -54,7 +54,7 @@ const ROWS: &[Row] = &[
         top: 20,
         left: &[],
     },
-    // Station 1 stays, and so does 5; 2 leaves, and 3 stays in round 1 alone.
+    // Stations 1 and 5 stay and station 2 leaves. Station 3 says only that it stays in round 1.
     Row {
         fall: LISTED,
         stations: STATIONS,
@@ -64,7 +64,7 @@ const ROWS: &[Row] = &[
     },
 ];
 
-// The owners of these lines.
+// Returns the owners with these lines.
 fn owners_of(alloc: Global, lines: &[(u32, u32, bool)]) -> Result<Owners, NoMemory> {
     let mut owners = Owners::new(alloc);
     for (round, station, stays) in lines {
@@ -78,7 +78,7 @@ fn owners_of(alloc: Global, lines: &[(u32, u32, bool)]) -> Result<Owners, NoMemo
     Ok(owners)
 }
 
-// Whether the stations are those of these ids, in this order.
+// Checks whether the stations have exactly these ids, in this order.
 fn are(only: &Scenario, ids: &[u32]) -> bool {
     let stations = only.stations.as_slice();
     if stations.len() != ids.len() {
@@ -92,7 +92,7 @@ fn are(only: &Scenario, ids: &[u32]) -> bool {
     true
 }
 
-// Whether the price never falls.
+// Checks whether the price never falls.
 fn never_falls(only: &Scenario) -> bool {
     match &only.fall {
         Fall::Listed(decrements) => decrements.as_slice().is_empty(),
@@ -100,7 +100,7 @@ fn never_falls(only: &Scenario) -> bool {
     }
 }
 
-// How many lines the owners say, if they say any.
+// Returns the number of owner lines, or `None` without owners.
 fn lines_said(only: &Scenario) -> Option<usize> {
     match &only.owners {
         Some(owners) => Some(owners.lines().len()),
@@ -108,7 +108,7 @@ fn lines_said(only: &Scenario) -> Option<usize> {
     }
 }
 
-// Whether what is left of the scenario is as the row has it.
+// Checks whether `start_only` returns what the row expects.
 fn is_left(alloc: Global, sc: &Scenario, row: &Row) -> Result<bool, NoMemory> {
     if row.top < 14 || row.top > 51 {
         return Ok(false);
@@ -119,7 +119,7 @@ fn is_left(alloc: Global, sc: &Scenario, row: &Row) -> Result<bool, NoMemory> {
     Ok(rest && said && never_falls(&only) && are(&only, row.left))
 }
 
-// Whether the row's scenario is read, and what is left of it is as the row has it.
+// Checks whether the row's scenario is read, and `start_only` returns what the row expects.
 fn is_answered(alloc: Global, row: &Row) -> Result<bool, NoMemory> {
     let fall = row.fall;
     let stations = row.stations;

@@ -1,11 +1,11 @@
-//! Texts that are JSON and texts that are not, and members that stand twice.
+//! Texts that are or are not JSON, and repeated members.
 
 use crate::files::scenarios::tests::{Fault, first_not, first_otherwise, is_answered, says};
 use scenario_json::name::Name;
 use std::alloc::{AllocError as NoMemory, Global};
 use std::test::Fail;
 
-// The first of these that is not refused as no JSON, by its place from 0.
+// Returns the index of the first text that is not rejected as a syntax error.
 fn first_json(alloc: Global, cases: &[&[u8]]) -> Option<usize> {
     for (i, bytes) in cases.iter().enumerate() {
         if !says(alloc, bytes, Some(Fault::Syntax)) {
@@ -34,7 +34,7 @@ fn bytes_that_are_no_json(rt: HostRuntime) {
     assert_eq!(rt; first_json(rt.alloc(), CASES), None);
 }
 
-// Whether the text is answered so, with lists that nest so deep in a member that is passed over.
+// Checks the outcome of a text with lists nested this deep in an ignored member.
 fn nests(alloc: Global, depth: usize, fault: Option<Fault>) -> Result<bool, NoMemory> {
     let before = "[".repeat(alloc, depth)?;
     let after = "]".repeat(alloc, depth)?;
@@ -76,7 +76,7 @@ fn texts_written_otherwise(rt: HostRuntime) -> Result<(), Fail> {
     Ok(())
 }
 
-// Of a member that stands twice the last counts, also where one of them is of another kind.
+// The last of two members with the same name counts, also if one of them is of another kind.
 #[test]
 fn members_that_stand_twice(rt: HostRuntime) -> Result<(), Fail> {
     const ROWS: &[(&str, &str, Option<Fault>)] = &[

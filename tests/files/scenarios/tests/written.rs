@@ -1,4 +1,4 @@
-//! What is written of scenarios, and that it is read as them.
+//! A written scenario has the expected text, and is read back unchanged.
 
 use pack_defs::fall::Fall;
 use pack_defs::items::Items;
@@ -10,7 +10,7 @@ use scenario_json::write::write_scenario;
 use std::alloc::{AllocError as NoMemory, Global};
 use std::test::Fail;
 
-// How the price falls, in short: by these decrements, or by a rate and a floor.
+// How the price falls: by these decrements, or by a rate and a floor.
 #[derive(Clone, Copy)]
 enum Told {
     By(&'static [u32]),
@@ -22,7 +22,7 @@ type Stations = &'static [(u32, u32, Option<u64>)];
 
 type Workers = &'static [(Kind, u32, u64)];
 
-// The version, top channel and opening price of a scenario, how its price falls, its stations and workers, and its text.
+// A scenario's version, top channel, opening price, price fall, stations and workers, and its text.
 type Row = (u32, u8, u32, Told, Stations, Workers, &'static str);
 
 fn fall_of(alloc: Global, told: Told) -> Result<Fall, NoMemory> {
@@ -95,7 +95,7 @@ fn are_workers(workers: &[Worker], rows: Workers) -> bool {
             .all(|(x, row)| (x.kind, x.budget, x.seed) == *row)
 }
 
-// Whether the bytes are read as the row's scenario.
+// Checks whether the bytes are read as the row's scenario.
 fn reads_so(alloc: Global, bytes: &[u8], row: &Row) -> bool {
     let (version, top, opening, told, stations, workers, _) = *row;
     let Ok(read) = read_scenario(alloc, bytes) else {
@@ -110,14 +110,14 @@ fn reads_so(alloc: Global, bytes: &[u8], row: &Row) -> bool {
         && read.owners.is_none()
 }
 
-// Whether the row's scenario is written as its text, and that is read as the scenario.
+// Checks whether the row's scenario is written as its text, and read back unchanged.
 fn is_written(alloc: Global, row: &Row) -> Result<bool, NoMemory> {
     let scenario = scenario_of(alloc, row)?;
     let bytes = write_scenario(alloc, &scenario)?;
     Ok(bytes.as_slice() == row.6.as_bytes() && reads_so(alloc, bytes.as_slice(), row))
 }
 
-// The text of the first row that is written or read otherwise.
+// Returns the text of the first row that is written or read otherwise.
 fn first_otherwise(alloc: Global, rows: &[Row]) -> Result<Option<&'static str>, NoMemory> {
     for row in rows {
         if !is_written(alloc, row)? {

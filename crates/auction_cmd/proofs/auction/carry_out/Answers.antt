@@ -1,4 +1,4 @@
--- The plan that the words are, and how it ends.
+-- The plan of the words, and how it ends.
 use Rattle.std.proofs.Common.{map, refl, string_bytes, sym}
 use Rattle.commands.specs.Ends.Ends.{Usage, Repeated, Ran, Checked, Verified, Sought, Made, Exported, Imported}
 use Rattle.auction_cmd.specs.Program.ProgramEnds.{Single, Resumed, Batched}

@@ -1,4 +1,4 @@
--- By the lemmas on a station's place.
+-- By the lemmas on a station's slot.
 use Rattle.std.proofs.Common.{None, sym}
 use Rattle.auction_core.proofs.Placed.{channel-at, channel-out}
 use Rattle.auction_core.proofs.air_map.channel_at.Goals as goal

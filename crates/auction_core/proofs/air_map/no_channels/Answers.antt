@@ -1,4 +1,4 @@
--- By the lemma on one more place.
+-- By the lemma on one more slot.
 use Rattle.std.proofs.Common.{rules, ap, ◌∙◌}
 use Rattle.auction_core.specs.AirMap.{placed_entries}
 use Rattle.auction_core.proofs.Placed.{none-anywhere, none-more}

@@ -1,4 +1,4 @@
--- One place for each turn, none with a channel.
+-- One empty slot for each iteration.
 use Rattle.std.proofs.Common.{◌≡◌, ℕ, List, [], length}
 use Rattle.auction_core.specs.AirMap.{placed_entries}
 use Rattle.auction_core.proofs.air_map.no_channels.Given as goal

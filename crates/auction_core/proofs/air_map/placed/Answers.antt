@@ -1,4 +1,4 @@
--- By the lemmas on one place more.
+-- By the lemmas on one more slot.
 use Rattle.std.proofs.Common.{rules, None, refl}
 use Rattle.auction_core.specs.AirMap.{placed_entries}
 use Rattle.auction_core.proofs.Placed.{place-passed, places-done, placed-ascending}

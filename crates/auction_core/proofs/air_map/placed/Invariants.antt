@@ -1,4 +1,4 @@
--- The entries so far and those of the places that are left are all.
+-- The entries so far and those of the remaining slots are all entries.
 use Rattle.std.proofs.Common.{◌≡◌, ◌++◌, drop}
 use Rattle.auction_core.specs.AirMap.{placed_entries}
 use Rattle.auction_core.proofs.air_map.placed.Given as goal

@@ -1,4 +1,4 @@
--- The last round comes after the last price, and the station's own volume and value are those of its number.
+-- The last round comes after the last price, and the station's volume and value can be looked up by its number.
 use Rattle.std.proofs.Common.{◌≡◌, ◌||◌, ◌∙◌, ap, sym, true, false, eqb, None, arith, get_or, length}
 use Rattle.std.proofs.lemmas.Bool.{eq-eqb, ne_eqb}
 use Rattle.pack_defs.specs.declared.station.Station.{Station}

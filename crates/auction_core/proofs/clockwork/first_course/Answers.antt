@@ -1,4 +1,4 @@
--- The state that the auction opens with.
+-- The opening state.
 use Rattle.std.proofs.Common.{◌≡◌, ◌∙◌, ap, sym, None, Some}
 use Rattle.auction_core.specs.State.{CoreState, start_unasked, started}
 use Rattle.auction_core.proofs.ClockworkLemmas.{opening-none, opening-some}

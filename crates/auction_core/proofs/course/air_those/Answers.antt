@@ -1,4 +1,4 @@
--- One station more, which starts on air or doesn't.
+-- One more station, which starts on air or does not.
 use Rattle.std.proofs.Common.{◌≡◌, ◌∙◌, ℕ, ◌+◌, ◌<◌, None, arith, ap, sym, subst, get_or, length, true}
 use Rattle.std.proofs.lemmas.List.{length-map}
 use Rattle.std.proofs.lemmas.List.Elements.{Contains-get_or}

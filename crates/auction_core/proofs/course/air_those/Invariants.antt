@@ -1,4 +1,4 @@
--- The stations before this one have gone on air, as far as they start so.
+-- Of the stations before this one, those that start on air are on air.
 use Rattle.std.proofs.Common.{◌≡◌, length}
 use Rattle.auction_core.specs.Parts.{IsPartsOf}
 use Rattle.auction_core.proofs.Starters.{aired}

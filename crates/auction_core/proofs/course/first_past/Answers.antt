@@ -1,4 +1,4 @@
--- What goes on air changes only the parts and how many are on air.
+-- Stations that go on air change only the components and the count.
 use Rattle.std.proofs.Common.{◌∙◌, ap, get_or, length}
 use Rattle.auction_core.specs.Past.{PastView}
 use Rattle.auction_core.proofs.course.first_past.Goals as goal

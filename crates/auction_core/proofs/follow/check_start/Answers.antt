@@ -1,4 +1,4 @@
--- How the start test stands, by how it is shown.
+-- By cases on how the start was settled.
 use Rattle.std.proofs.Common.{◌≡◌, rules, true, false, is_some, option_map, subst, sym}
 use Rattle.auction_core.specs.Checked.{IsStepFault, is_empty_shown}
 use Rattle.auction_core.specs.NotShown.{start_fault}

@@ -1,4 +1,4 @@
--- A step on, or off.
+-- One more step, or the first error.
 use Rattle.std.proofs.Common.{◌+◌, ◌∙◌, sym, arith, length}
 use Rattle.auction_core.specs.Checked.{step_told}
 use Rattle.auction_core.proofs.KeptLemmas.{early-more}

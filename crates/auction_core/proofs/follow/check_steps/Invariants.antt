@@ -1,4 +1,4 @@
--- The walk over the steps that are left finds what the walk over all of them finds.
+-- The walk over the remaining steps finds what the walk over all steps finds.
 use Rattle.std.proofs.Common.{◌≡◌, ◌≤◌, [], Option, drop, length, take}
 use Rattle.pack_defs.specs.declared.order.Order.{Order}
 use Rattle.auction_core.specs.declared.record.Shown.{Shown}

@@ -1,4 +1,4 @@
--- The start and the steps, one after the other.
+-- The start and then the steps.
 use Rattle.std.proofs.Common.{◌≡◌, ◌∙◌, List, [], None, length, sym, subst, arith}
 use Rattle.auction_core.specs.Setup.{IsOfAuction}
 use Rattle.auction_core.specs.Checked.{IsEarly, found_in}

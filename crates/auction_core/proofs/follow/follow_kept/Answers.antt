@@ -1,4 +1,4 @@
--- By whether the start was shown.
+-- By whether there is a start.
 use Rattle.std.proofs.Common.{◌≡◌, ◌&&◌, ◌∙◌, true, false, not, rules, sym, ap, subst}
 use Rattle.pack_defs.specs.Lists.{is_empty}
 use Rattle.auction_core.specs.LogNumbers.{steps_in}

@@ -1,4 +1,4 @@
--- A step that is missing behind the last one is no fault where there is no end.
+-- Without an end, a missing step after the last one is no fault.
 use Rattle.auction_core.proofs.EndLemmas.{started-none}
 use Rattle.auction_core.proofs.follow.follow_started.Goals as goal
 

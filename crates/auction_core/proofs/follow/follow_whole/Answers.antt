@@ -1,4 +1,4 @@
--- What the check of a whole transcript comes to.
+-- By the lemmas on the end of a transcript.
 use Rattle.std.proofs.Common.{◌≡◌, ◌∙◌, rules, length}
 use Rattle.auction_core.proofs.EndLemmas.{all-shown, end-err-at}
 use Rattle.auction_core.proofs.follow.follow_whole.Goals as goal

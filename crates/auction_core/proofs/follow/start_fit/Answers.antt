@@ -1,4 +1,4 @@
--- A fit that is let through settles the start test.
+-- An accepted fit settles the start test.
 use Rattle.std.proofs.Common.{◌≡◌, ◌∙◌, Some, None, sym, ap, subst, option_map}
 use Rattle.std.proofs.lemmas.Option.{MatchOption-at_some, none-some, same_Some}
 use Rattle.cert_types.specs.Query.{IsQuery}

@@ -1,4 +1,4 @@
--- Each side computes.
+-- Both sides compute to the same value.
 use Rattle.std.proofs.Common.{refl}
 use Rattle.pack_defs.specs.Examples.{three_stations, three_bids, lone_station, lone_bid}
 use Rattle.assign_check.specs.Fault.{first_fault}

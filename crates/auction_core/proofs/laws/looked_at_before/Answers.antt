@@ -1,4 +1,4 @@
--- By cases on what was said.
+-- By cases on the verdict of the check.
 use Rattle.auction_core.proofs.Looked.{looked}
 use Rattle.auction_core.proofs.laws.looked_at_before.Goals as goal
 

@@ -1,4 +1,4 @@
--- Each side computes.
+-- Both sides compute to the same value.
 use Rattle.std.proofs.Common.{refl}
 use Rattle.pack_defs.specs.Examples.{three_stations, three_bids}
 use Rattle.pack_defs.specs.ResultRows.{result_rows}

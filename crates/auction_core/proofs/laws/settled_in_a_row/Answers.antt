@@ -1,4 +1,4 @@
--- Each side computes.
+-- Both sides compute to the same value.
 use Rattle.std.proofs.Common.{refl}
 use Rattle.pack_defs.specs.Examples.{lone_bid}
 use Rattle.assign_check.specs.Fault.{first_fault}

@@ -1,4 +1,4 @@
--- One station more, and its entry.
+-- One more station, and its entry.
 use Rattle.std.proofs.Common.{◌≡◌, ◌<◌, ◌∙◌, ℕ, Bool, None, ap, false, filter, get_or, length, refl, rules, subst, sym, take, true}
 use Rattle.std.proofs.lemmas.List.{take_all}
 use Rattle.auction_core.specs.AirMap.{placed_entries}

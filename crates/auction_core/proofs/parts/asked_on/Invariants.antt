@@ -1,4 +1,4 @@
--- Those of the stations so far, and their entries with those of the places that are left.
+-- The set has the stations so far; their entries and those of the remaining slots are all entries.
 use Rattle.std.proofs.Common.{◌≡◌, ◌++◌, filter, take}
 use Rattle.auction_core.specs.AirMap.{placed_entries}
 use Rattle.auction_core.specs.Parts.{is_asked, label_in}

@@ -1,4 +1,4 @@
--- The set of a query ascends; and a receipt that is not let through tells the first fault of all.
+-- The set of a query ascends, and a rejected receipt has the first error of all.
 use Rattle.std.proofs.Common.{◌≡◌, ◌<◌, ◌∙◌, true, ap, arith, length, subst, sym}
 use Rattle.pack_defs.specs.Lists.{is_ascending}
 use Rattle.cert_types.proofs.QueryLaws.{query-task}

@@ -1,4 +1,4 @@
--- What is let through, before what is left, are all; and the first fault of all is that of those left.
+-- The accepted receipts and the remaining ones are all, and the first error of all is that of the remaining ones.
 use Rattle.std.proofs.Common.{◌≡◌, ◌+◌, ◌++◌, drop, length}
 use Rattle.auction_core.specs.NotShown.{each_fault}
 use Rattle.auction_core.proofs.receipts.receipts.Given as goal

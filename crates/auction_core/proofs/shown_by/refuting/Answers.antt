@@ -1,4 +1,4 @@
--- The set of a query ascends, and a log let through has no fault.
+-- The set of a query ascends, and an accepted log has no fault.
 use Rattle.std.proofs.Common.{◌∙◌, sym, ap}
 use Rattle.cert_types.specs.Outside.{outside_fault}
 use Rattle.cert_types.specs.declared.outside.OutsideProof.{OutsideProof}

@@ -1,4 +1,4 @@
--- The closure gives a station's number.
+-- The closure returns a station's number.
 use Rattle.std.proofs.Common.{rules}
 use Rattle.std.proofs.lemmas.List.Sorted.{answers_always}
 use Rattle.pack_defs.specs.declared.station.Station.{Station}

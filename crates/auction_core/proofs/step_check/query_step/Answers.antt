@@ -1,4 +1,4 @@
--- What is let through settles the standing query.
+-- An accepted certificate settles the current query.
 use Rattle.std.proofs.Common.{◌≡◌, ◌∙◌, ◌==◌, ◌&&◌, Some, None, sym, ap, subst, true}
 use Rattle.std.proofs.lemmas.Option.{MatchOption-at_some}
 use Rattle.cert_types.specs.Query.{IsQuery}

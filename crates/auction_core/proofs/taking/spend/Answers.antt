@@ -1,4 +1,4 @@
--- The last worker's receipt settles the query, with those of all the others.
+-- The last worker's receipt settles the query, together with all the others.
 use Rattle.std.proofs.Common.{◌≡◌, true, false, ◌+◌, ◌==◌, length, sym, ap, ◌∙◌, arith, eq-eqb}
 use Rattle.auction_core.specs.Auction.{state_at}
 use Rattle.auction_core.specs.State.{CoreState}

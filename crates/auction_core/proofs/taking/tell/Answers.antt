@@ -1,4 +1,4 @@
--- By cases on what the posting says.
+-- By cases on the posting's verdict.
 use Rattle.std.proofs.Common.{sym, ap, ◌∙◌}
 use Rattle.auction_core.specs.Auction.{state_at}
 use Rattle.auction_core.specs.State.{CoreState}

@@ -1,4 +1,4 @@
--- The walk along what is left finds all exactly where the whole one does.
+-- The walk along what is left finds all exactly if the complete walk does.
 use Rattle.std.proofs.Common.{◌≡◌, ◌≤◌, drop, length}
 use Rattle.batch_cache.specs.Walks.{finds_all}
 use Rattle.batch_cache.proofs.numbers.finds_all.Given as goal

@@ -1,4 +1,4 @@
--- The words that are left are covered exactly where all are.
+-- The words that are left are covered exactly if all are.
 use Rattle.std.proofs.Common.{◌≡◌, drop}
 use Rattle.batch_cache.specs.StationBits.{are_covered}
 use Rattle.batch_cache.proofs.station_bits.are_covered.Given as goal

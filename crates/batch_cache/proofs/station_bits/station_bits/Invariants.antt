@@ -1,4 +1,4 @@
--- What is left adds what the whole does, and there are sixteen words.
+-- The stations that are left add the bits that are missing, and there are sixteen words.
 use Rattle.std.proofs.Common.{◌≡◌, drop}
 use Rattle.batch_cache.specs.StationBits.{with_bits, station_bits}
 use Rattle.batch_cache.proofs.station_bits.station_bits.Given as goal

@@ -1,4 +1,4 @@
--- The two scans of the log find the first line at fault, and the tests before them passed.
+-- The two scans of the log find its first invalid line, and the tests before them passed.
 use Rattle.std.proofs.Common.{◌≡◌, ◌<◌, ◌≤◌, length, true, option_map, sym, ap, ◌∙◌, arith}
 use Rattle.std.proofs.lemmas.Bool.{eqb-false}
 use Rattle.cnf_encode.specs.Formula.{packing_formula, variables_in}

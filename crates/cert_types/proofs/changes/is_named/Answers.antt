@@ -1,4 +1,4 @@
--- The tested station is in a map exactly where it has a channel there.
+-- The map has the tested station exactly if the station has a channel there.
 use Rattle.std.proofs.Common.{◌∙◌, ap, sym}
 use Rattle.std.specs.Option.{is_some}
 use Rattle.assign_check.proofs.Finds.{channel-known}

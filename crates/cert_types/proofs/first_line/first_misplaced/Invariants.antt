@@ -1,4 +1,4 @@
--- The first line at fault is the first of those that are left.
+-- The first invalid line is the first of the rest.
 use Rattle.std.proofs.Common.{◌≡◌, ◌+◌, List, take, drop}
 use Rattle.clause_db.specs.declared.lit.Lit.{Lit}
 use Rattle.rup_check.specs.Follows.{clauses_before}

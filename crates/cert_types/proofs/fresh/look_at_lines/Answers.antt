@@ -1,4 +1,4 @@
--- A line is looked at, and then filed.
+-- A line is checked, and then filed.
 use Rattle.std.proofs.Common.{◌≡◌, ◌∙◌, sym, ap, false, true, List, take, ◌+◌, ◌<◌, ◌++◌, length}
 use Rattle.clause_db.specs.declared.lit.Lit.{Lit}
 use Rattle.rup_check.specs.declared.line.Line.{Line}

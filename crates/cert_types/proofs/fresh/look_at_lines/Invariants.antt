@@ -1,4 +1,4 @@
--- The clauses and the lines up to here are filed, and the first line at fault is the first of those that are left.
+-- The clauses and the lines up to here are filed, and the first invalid line is the first of the rest.
 use Rattle.std.proofs.Common.{◌≡◌, ◌+◌, [], take, drop}
 use Rattle.rup_check.specs.Follows.{clauses_before}
 use Rattle.cert_types.specs.Filing.{AreFiled}

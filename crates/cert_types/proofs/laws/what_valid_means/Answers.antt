@@ -1,4 +1,4 @@
--- By the lemmas, both ways.
+-- By the lemmas, in both directions.
 use Rattle.cert_types.proofs.Meaning.{fit-means, means-fit, proof-means, means-proof, dead-means, means-dead, lines-means, means-lines, moves-means, means-moves}
 use Rattle.cert_types.proofs.Outsiders.{outside-means, means-outside}
 use Rattle.cert_types.proofs.laws.what_valid_means.Goals as goal

@@ -1,4 +1,4 @@
--- The first move at fault is the first of those that are left, in the map that those before them leave.
+-- The first invalid move is the first of the rest, in the map that the moves before the rest leave.
 use Rattle.std.proofs.Common.{◌≡◌, ◌+◌, drop}
 use Rattle.cert_types.specs.Walks.{first_move, start_map}
 use Rattle.cert_types.proofs.moves.first_move.Given as goal

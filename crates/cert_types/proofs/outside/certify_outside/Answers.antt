@@ -1,4 +1,4 @@
--- A log without fault is a proof from outside.
+-- A valid log is a proof from outside.
 use Rattle.std.proofs.Common.{◌∙◌, sym}
 use Rattle.cert_types.proofs.Outsiders.{outside-means}
 use Rattle.cert_types.proofs.outside.certify_outside.Goals as goal

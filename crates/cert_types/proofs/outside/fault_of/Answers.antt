@@ -1,4 +1,4 @@
--- A proof over the whole set, of a worker that may derive as many lines, is at fault where one from outside is.
+-- A proof over the complete set, by a worker with a budget of as many lines, has the faults of one from outside.
 use Rattle.std.proofs.Common.{◌≡◌, ◌∙◌, IfOk, List, ℕ, ap, subst}
 use Rattle.cert_types.specs.Valid.{proof_fault}
 use Rattle.cert_types.proofs.Outsiders.{as-of-no_one, no_one}

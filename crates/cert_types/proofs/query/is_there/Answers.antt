@@ -1,4 +1,4 @@
--- A station is in a map exactly where it has a channel there.
+-- A station is in a map exactly if it has a channel there.
 use Rattle.std.proofs.Common.{◌∙◌, ap, ne_eqb}
 use Rattle.std.specs.Option.{is_some}
 use Rattle.assign_check.proofs.Finds.{channel-known}

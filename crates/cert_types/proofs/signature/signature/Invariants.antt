@@ -1,4 +1,4 @@
--- What is left adds what the whole does.
+-- The rest of the literals adds the same bits.
 use Rattle.std.proofs.Common.{◌≡◌, drop}
 use Rattle.cert_types.specs.Signature.{signed, signature}
 use Rattle.cert_types.proofs.signature.signature.Given as goal

@@ -1,4 +1,4 @@
--- The stations seen stand on their channels.
+-- The stations visited so far are on their channels.
 use Rattle.std.proofs.Common.{◌≡◌, take}
 use Rattle.cert_types.specs.Walks.{start_map}
 use Rattle.cert_types.proofs.start.start_map.Given as goal

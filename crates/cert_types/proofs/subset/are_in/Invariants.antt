@@ -1,4 +1,4 @@
--- The numbers that are left are all in the set exactly where all are.
+-- All numbers are in the set exactly if the rest of them is.
 use Rattle.std.proofs.Common.{◌≡◌, drop}
 use Rattle.std.specs.List.{list_all}
 use Rattle.pack_defs.specs.Lists.{is_in}

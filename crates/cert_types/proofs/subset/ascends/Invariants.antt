@@ -1,4 +1,4 @@
--- The numbers from the last one seen on ascend exactly where all do.
+-- All numbers ascend exactly if those from the last visited one on do.
 use Rattle.std.proofs.Common.{◌≡◌, ◌-◌, drop}
 use Rattle.pack_defs.specs.Lists.{is_ascending}
 use Rattle.cert_types.proofs.subset.ascends.Given as goal

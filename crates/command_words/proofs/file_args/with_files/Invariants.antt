@@ -1,4 +1,4 @@
--- What is left is added to what stands, as all is to what stood.
+-- Adding the remaining arguments to the command so far gives the same as adding all to the first command.
 use Rattle.std.proofs.Common.{◌≡◌, drop, false, map}
 use Rattle.clap.specs.Words.{app_of}
 use Rattle.clap.specs.declared.builder.command.Command.TheViews.{out-Command}

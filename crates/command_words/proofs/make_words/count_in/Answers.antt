@@ -1,4 +1,4 @@
--- The count is the number that the text is, where it is in its bounds.
+-- The count is the number that the text is, if it is within bounds.
 use Rattle.std.proofs.Common.{arith}
 use Rattle.std.proofs.lemmas.Bool.Decides.{nat_tests}
 use Rattle.command_words.proofs.NumberLemmas.{parsed-in, unparsed}

@@ -1,4 +1,4 @@
--- The first value that `clap` holds is the first of the rows.
+-- The first value that `clap` has is the first of the rows.
 use Rattle.std.proofs.Common.{◌∙◌}
 use Rattle.clap.specs.Matches.{found_of}
 use Rattle.clap.proofs.WalkLemmas.{first_value-rows}

@@ -1,4 +1,4 @@
--- The words have no fault, so their command is the one that `clap` found; or `clap` has a fault for them.
+-- Either the words have no fault and their command is the one that `clap` found, or `clap` reports a fault.
 use Rattle.std.proofs.Common.{Some, None, map, string_bytes}
 use Rattle.clap.specs.Words.{app_of, subcommand_rows_of}
 use Rattle.command_words.specs.Words.{command_seen}

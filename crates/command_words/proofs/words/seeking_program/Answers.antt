@@ -1,4 +1,4 @@
--- The command is added to those before.
+-- The command is added to the program before.
 use Rattle.clap.specs.Words.{app_of}
 use Rattle.command_words.specs.Words.{resuming_app, seek_app}
 use Rattle.command_words.proofs.ProgramLemmas.{added-last}

@@ -1,4 +1,4 @@
--- Each end, from what its steps did.
+-- Each ending, from the results of the steps.
 use Rattle.std.proofs.Common.{◌≡◌, ◌∙◌, Some, refl, ap, subst, inl}
 use Rattle.std.specs.Prelude.{Err, None}
 use Rattle.batch_list.specs.Repeated.{repeated_result}

@@ -1,4 +1,4 @@
--- The records and the texts of what came of the auctions.
+-- The records and the texts of the auctions' results.
 use Rattle.std.proofs.Common.{◌∙◌, List, ap, length, map, option_map, subst, sym}
 use Rattle.std.proofs.lemmas.List.{length-map}
 use Rattle.auction_core.specs.declared.record.Record.{Record}

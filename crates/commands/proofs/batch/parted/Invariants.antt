@@ -1,4 +1,4 @@
--- What was taken apart, before what is left.
+-- The parts so far, and then what is left.
 use Rattle.std.proofs.Common.{◌≡◌, ◌++◌, map}
 use Rattle.std.specs.Vec.Iter.{into_iter_items}
 use Rattle.commands.proofs.batch.parted.Given as goal

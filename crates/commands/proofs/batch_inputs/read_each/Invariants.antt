@@ -1,4 +1,4 @@
--- What is made of the lines that are left, behind the inputs so far, is what is made of all; and the outside stands.
+-- The inputs so far, and those of the lines that are left, are those of all lines; nothing outside changes.
 use Rattle.std.proofs.Common.{◌≡◌, ◌≤◌, All, List, Some, drop, length, vec_capacity}
 use Rattle.outside_io.specs.Files.{StoredFile}
 use Rattle.auction_core.specs.Setup.{IsOfAuction}

@@ -1,4 +1,4 @@
--- What was gone through is kept, and none of it wanted memory.
+-- The results so far are kept, and memory ran out in none of them.
 use Rattle.std.proofs.Common.{◌≡◌, ◌++◌, map, Ok}
 use Rattle.std.specs.Vec.Iter.{into_iter_items}
 use Rattle.commands.proofs.batch_run.all_of.Given as goal

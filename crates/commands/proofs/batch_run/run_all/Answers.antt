@@ -1,4 +1,4 @@
--- None of the auctions wanted memory.
+-- Memory ran out in none of the auctions.
 use Rattle.commands.proofs.BatchEndLemmas.{none-wants}
 use Rattle.commands.proofs.batch_run.run_all.Goals as goal
 

@@ -1,4 +1,4 @@
--- Each text was stored, and then the summary was written, or some of it.
+-- Each text was stored, and then the summary was written, or a part of it.
 use Rattle.std.proofs.Common.{map, refl}
 use Rattle.commands.specs.Delivery.{named_text}
 use Rattle.commands.specs.Delivery.IsPrinted.{Written, CutShort}

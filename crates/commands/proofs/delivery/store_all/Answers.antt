@@ -1,4 +1,4 @@
--- All were stored, or the first that was not is told.
+-- All texts were stored, or the first that was not is reported.
 use Rattle.std.proofs.Common.{map, subst}
 use Rattle.std.proofs.lemmas.Option.{get_or_from_slice_get}
 use Rattle.outside_io.specs.Groups.{stored_file}

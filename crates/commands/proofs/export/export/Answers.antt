@@ -1,4 +1,4 @@
--- Each end: the transcript is at fault, or the formula of what it shows is stored, from where the outside stood before.
+-- Each ending: the transcript is invalid, or the formula of its record's step is stored, from the state before.
 use Rattle.commands.specs.Ends.ExportEnds.{Unshown}
 use Rattle.command_words.specs.Words.{export_seen}
 use Rattle.commands.proofs.ShownLemmas.{export-since}

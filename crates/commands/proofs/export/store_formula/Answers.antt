@@ -1,4 +1,5 @@
--- Each end, from what its steps did: the outside is what it was until the formula is stored, or a line is said.
+-- Each ending, from the results of the steps: nothing outside changes until the formula is stored or a line is
+-- written.
 use Rattle.std.proofs.Common.{refl, sym}
 use Rattle.commands.specs.Ends.ExportEnds.{FormulaStored, FormulaNotStored}
 use Rattle.command_words.specs.Words.{export_seen}

@@ -1,4 +1,4 @@
--- Each end: the transcript is at fault, or what it shows is settled, from where the outside stood before.
+-- Each ending: the transcript is invalid, or a step of its record is settled, from the state before.
 use Rattle.commands.specs.Ends.ImportEnds.{NothingShown}
 use Rattle.command_words.specs.Words.{import_seen}
 use Rattle.commands.proofs.ImportEndLemmas.{import-since}

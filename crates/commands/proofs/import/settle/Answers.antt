@@ -1,4 +1,4 @@
--- Each end, from what its steps did: the outside is what it was until the log is loaded.
+-- Each ending, from the results of the steps: nothing outside changes until the log is loaded.
 use Rattle.std.proofs.Common.{refl, sym}
 use Rattle.command_words.specs.Words.{import_seen}
 use Rattle.commands.proofs.ImportEndLemmas.{no-log-counted-since, no-log-since, no-open-step, not-settled-since, settled-since}

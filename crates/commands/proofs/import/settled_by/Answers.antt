@@ -1,4 +1,4 @@
--- The record that is left is one of the inputs' auction.
+-- The new record is one of the inputs' auction.
 use Rattle.auction_core.proofs.AuctionLemmas.{is-auction}
 use Rattle.commands.proofs.ImportEndLemmas.{settling}
 use Rattle.commands.proofs.import.settled_by.Goals as goal

@@ -1,4 +1,4 @@
--- Each end, from what its steps did: the bytes that are stored and read are the made files.
+-- Each ending, from the results of the steps: the bytes that are stored and read are the generated files.
 use Rattle.std.proofs.Common.{◌∙◌, refl}
 use Rattle.commands.specs.Delivery.IsPrinted.{Written, CutShort}
 use Rattle.commands.specs.Ends.MakeEnds.{MakeStopped, AuctionStarved, Carried}

@@ -1,4 +1,4 @@
--- The auction stands behind what was kept.
+-- The auction is in the state after the kept steps.
 use Rattle.commands.proofs.ResumeEndLemmas.{stands-behind}
 use Rattle.commands.proofs.resume.auction_behind.Goals as goal
 

@@ -1,4 +1,4 @@
--- What is made of what was read is what is made of the text.
+-- The result for what was read is the result for the text.
 use Rattle.commands.proofs.ResumeEndLemmas.{read-begun, unread-begun}
 use Rattle.commands.proofs.resume.begun.Goals as goal
 

@@ -1,4 +1,4 @@
--- The record is that of the inputs' auction in its order, and goes on from what was kept.
+-- The record is that of the inputs' auction in its order, and continues what was kept.
 use Rattle.std.proofs.Common.{subst}
 use Rattle.auction_core.proofs.AuctionLemmas.{is-auction}
 use Rattle.auction_core.specs.Backed.{IsBacked}

@@ -1,4 +1,4 @@
--- Each end, from what its steps did.
+-- Each ending, from the results of the steps.
 use Rattle.std.proofs.Common.{◌∙◌}
 use Rattle.command_words.specs.Words.{resume_seen}
 use Rattle.commands.proofs.ResumeEndLemmas.{not-begun, prefix-unloaded}

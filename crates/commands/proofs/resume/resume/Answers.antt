@@ -1,4 +1,4 @@
--- The auction went on, and concludes.
+-- The auction continued, and concludes.
 use Rattle.command_words.specs.Words.{resume_seen}
 use Rattle.commands.proofs.ResumeEndLemmas.{went-on}
 use Rattle.commands.proofs.resume.resume.Goals as goal

@@ -1,4 +1,4 @@
--- The record is that of the inputs' auction, by how it ended.
+-- The record is that of the inputs' auction, by its ending.
 use Rattle.auction_core.proofs.AuctionLemmas.{is-auction}
 use Rattle.commands.proofs.EndLemmas.{record-by}
 use Rattle.commands.proofs.run.auction_of.Goals as goal

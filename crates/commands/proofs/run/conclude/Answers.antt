@@ -1,4 +1,4 @@
--- Each end, by how the auction ended.
+-- Each ending, by how the auction ended.
 use Rattle.std.proofs.Common.{inr, refl, subst}
 use Rattle.commands.specs.Ends.Concludes.{Unfit, StartOpen, Delivered}
 use Rattle.commands.specs.Records.{IsEndedRecordIn, IsOpenRecordIn, IsRecordIn, IsRefutedRecordIn}

@@ -1,4 +1,4 @@
--- The status says whether a test was left open.
+-- The status says whether a test is undecided.
 use Rattle.std.proofs.Common.{◌∙◌, true, false, ap, sym}
 use Rattle.std.specs.List.{list_any}
 use Rattle.auction_core.specs.Backed.{is_undecided}

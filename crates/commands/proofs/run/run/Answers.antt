@@ -1,4 +1,4 @@
--- The auction of the inputs concludes, where they were read and there was memory.
+-- The auction of the inputs concludes, if they were read and memory sufficed.
 use Rattle.std.proofs.Common.{refl}
 use Rattle.commands.specs.Records.{run_order}
 use Rattle.command_words.specs.Words.{names_seen}

@@ -1,4 +1,4 @@
--- A part, and those behind it.
+-- A part, and the parts after it.
 use Rattle.std.proofs.lemmas.Result.{err_from_is_err_and}
 use Rattle.std.specs.List.{flat_map}
 use Rattle.commands.proofs.SaysLemmas.{writes-cut, writes-then}

@@ -1,4 +1,4 @@
--- Each end, from what its steps did.
+-- Each ending, from the results of the steps.
 use Rattle.std.proofs.Common.{◌∷◌, [], refl, subst}
 use Rattle.result_text.specs.ChannelsText.{channels_text}
 use Rattle.commands.specs.Delivery.{named}

@@ -1,4 +1,4 @@
--- What the reader has read is what was handed out.
+-- The reader has read exactly the pieces.
 use Rattle.std.proofs.Common.{◌≡◌, ◌∙◌, ◌++◌, arith, length, rules, subst}
 use Rattle.std.proofs.lemmas.Bool.Decides.{nat_tests}
 use Rattle.std.proofs.lemmas.Result.{err_from_is_err_and}

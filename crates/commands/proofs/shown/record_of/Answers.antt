@@ -1,4 +1,4 @@
--- The verdict on what was read is that on the text.
+-- The verdict on what was read is the verdict on the text.
 use Rattle.commands.proofs.TranscriptLemmas.{read-verdict, unread-verdict}
 use Rattle.commands.proofs.shown.record_of.Goals as goal
 

@@ -1,4 +1,4 @@
--- Each end, from what its steps did.
+-- Each ending, from the results of the steps.
 use Rattle.std.proofs.Common.{◌∙◌}
 use Rattle.command_words.specs.Words.{verify_seen}
 use Rattle.commands.proofs.TranscriptLemmas.{denied-ends, unloaded-ends}

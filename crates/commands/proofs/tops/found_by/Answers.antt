@@ -1,4 +1,4 @@
--- What was told stands among the records, and what is found of it is true.
+-- Each answer has its record, and the result is true.
 use Rattle.std.proofs.Common.{◌≡◌, ◌≤◌, ◌-◌, false, subst, true}
 use Rattle.target_seek.specs.declared.top_test.TopAnswer.TheVariants.{Fits, Unfit, Open}
 use Rattle.target_seek.specs.Tops.{IsSought, IsTruth}

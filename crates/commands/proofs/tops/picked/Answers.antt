@@ -1,4 +1,4 @@
--- One record more was looked at.
+-- One more record was passed.
 use Rattle.std.proofs.Common.{List, Some, subst}
 use Rattle.std.proofs.lemmas.List.Elements.{All-pop}
 use Rattle.commands.specs.declared.tops.TopRecord.{TopRecord}

@@ -1,4 +1,4 @@
--- What was picked so far is what is asked for, among the records that are no more at hand.
+-- The record picked so far is the one asked for, among the records already passed.
 use Rattle.std.specs.Prelude.{All, length}
 use Rattle.commands.specs.Seek.{IsTopRecord, Picks}
 use Rattle.commands.proofs.tops.picked.Given as goal

@@ -1,4 +1,4 @@
--- One top more was asked about; and at the end what was told is true.
+-- One more top was tested; at the end, all answers are true.
 use Rattle.std.proofs.Common.{◌∙◌, List, subst, sym}
 use Rattle.target_seek.specs.Searching.{IsSearching}
 use Rattle.target_seek.specs.Tops.{AreTrue, AskedTop, SeekBase}

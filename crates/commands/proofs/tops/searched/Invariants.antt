@@ -1,4 +1,4 @@
--- The records are of the same scenario and files, and the search was told what they answer.
+-- The records are of the same scenario and files, and the search got their answers.
 use Rattle.std.proofs.Common.{◌≡◌}
 use Rattle.target_seek.specs.Halving.{tops_left}
 use Rattle.target_seek.specs.Searching.{IsSearching}

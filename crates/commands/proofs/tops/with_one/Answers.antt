@@ -1,4 +1,4 @@
--- The next record is the first that is asked for, the second, or neither.
+-- The next record is the first one asked for, the second, or neither.
 use Rattle.std.proofs.Common.{◌∙◌, sym}
 use Rattle.commands.proofs.TopLemmas.{pick-here, pick-past, told-apart}
 use Rattle.commands.proofs.tops.with_one.Goals as goal

@@ -1,4 +1,4 @@
--- Each end, from what its steps did: the outside is what it was until the result is printed.
+-- Each ending, from the results of the steps: nothing outside changes until the result is printed.
 use Rattle.std.proofs.Common.{◌∙◌, refl}
 use Rattle.commands.specs.Delivery.IsPrinted.{Written, CutShort}
 use Rattle.command_words.specs.Words.{verify_seen}

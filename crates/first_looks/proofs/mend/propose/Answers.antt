@@ -1,4 +1,4 @@
--- Where a channel is free, one was found.
+-- If a channel is free, one was found.
 use Rattle.std.proofs.Common.{◌≡◌, ◌∙◌, true, ap, sym, subst}
 use Rattle.std.specs.Option.{is_some}
 use Rattle.std.proofs.lemmas.Bool.{false≢true}

@@ -1,4 +1,4 @@
--- One is found where one of those so far is free.
+-- A channel is found if one of those so far is free.
 use Rattle.std.proofs.Common.{◌≡◌, ◌||◌, true, drop}
 use Rattle.std.specs.Prelude.{IfSome}
 use Rattle.std.specs.List.{list_any}

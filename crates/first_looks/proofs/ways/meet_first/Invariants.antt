@@ -1,4 +1,4 @@
--- What is left decides as the whole does.
+-- The pairs that are left decide the rest.
 use Rattle.std.proofs.Common.{◌≡◌, ℕ, ◌&&◌, not, drop, length}
 use Rattle.std.specs.List.{list_any}
 use Rattle.first_looks.specs.Free.{blocks_first, is_way_open, stood, way_at}

@@ -1,4 +1,4 @@
--- All pairs of the station are noted.
+-- All pairs of the station are recorded.
 use Rattle.first_looks.specs.Free.{stood}
 use Rattle.first_looks.proofs.FreeLemmas.{all-ways}
 use Rattle.first_looks.proofs.ways.ways_of.Goals as goal

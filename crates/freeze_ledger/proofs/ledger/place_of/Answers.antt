@@ -1,4 +1,4 @@
--- By the point where the lower stations end.
+-- By the place after the lower stations.
 use Rattle.std.proofs.Common.{nat_lt, rules, ℕ}
 use Rattle.std.proofs.lemmas.List.Sorted.{IsPartitionPoint-from_clause, IsPartitionedBy-ltb}
 use Rattle.freeze_ledger.proofs.LedgerLemmas.{insert-place, rising}

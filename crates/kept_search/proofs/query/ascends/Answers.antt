@@ -2,7 +2,7 @@ use Rattle.std.proofs.Common.{◌≡◌, ℕ, ◌-◌, ◌≤◌, true, List, []
 use Rattle.pack_defs.specs.Lists.{is_ascending}
 use Rattle.kept_search.proofs.query.ascends.Goals as goal
 
--- at most one entry ascends
+-- At most one entry ascends.
 short-ascends : (xs : List (ℕ × ℕ)) → length xs ≤ 1 → is_ascending (map (λ x. x.0) xs) ≡ true
 short-ascends [] h = refl
 short-ascends (x ∷ []) h = refl

@@ -1,4 +1,4 @@
--- The entries from the last one seen on ascend exactly where all do.
+-- The entries from the last visited one on ascend exactly if all entries do.
 use Rattle.std.proofs.Common.{◌≡◌, ◌-◌, drop, map}
 use Rattle.pack_defs.specs.Lists.{is_ascending}
 use Rattle.kept_search.proofs.query.ascends.Given as goal

@@ -5,7 +5,7 @@ use Rattle.lrat_text.specs.Lines.{is_space_or_tab}
 use Rattle.lrat_text.proofs.SplitLemmas.{word-at, one-word, no-words}
 use Rattle.lrat_text.proofs.lines.split_word.Goals as goal
 
--- the place isn't the first, whose byte is no blank
+-- The place is not the first, whose byte is no blank.
 past-first : (line : List ℕ) (i : ℕ) → is_space_or_tab (get_or line 0 0) ≡ false → is_space_or_tab (get_or line i 0) ≡ true → 0 < i
 past-first line zero e f = absurd (both_ways (is_space_or_tab (get_or line 0 0)) e f)
 past-first line (suc i) e f = omega arith

@@ -13,7 +13,7 @@ use Rattle.lrat_text.proofs.read.hint_place.Goals as goal
 some-none : (x : ℕ) → Some x ≡ None → ⊥
 some-none x e = cc
 
--- the element at a place
+-- The element at a place.
 standing : (xs : List ℕ) (i x : ℕ) → slice_get xs i ≡ Some x → (i < length xs) × (get_or xs i 0 ≡ x)
 standing xs i x e = elim (slice_get_cases xs i).1 [
   | inl at ↦ (at.1, get_or_from_slice_get xs i x 0 e)

@@ -1,4 +1,4 @@
--- A number at which memory runs out leaves a first part of the numbers.
+-- If memory runs out at a number, a first part of the numbers was appended.
 use Rattle.std.proofs.Common.{◌∙◌, ◌+◌, ◌<◌, ◌∷◌, ◌++◌, [], ℕ, List, ap, arith, decimal, drop, get_or, length, map, sym, take}
 use Rattle.std.proofs.lemmas.List.{drop_more}
 use Rattle.lrat_text.specs.LogText.{spaced}

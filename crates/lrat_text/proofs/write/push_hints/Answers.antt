@@ -1,4 +1,4 @@
--- A hint at which memory runs out leaves a first part of the hints.
+-- If memory runs out at a hint, a first part of the hints was appended.
 use Rattle.std.proofs.Common.{◌∙◌, ◌∷◌, [], ℕ, List, ap, decimal, map, refl, sym}
 use Rattle.lrat_text.specs.LogText.{spaced}
 use Rattle.lrat_text.proofs.CutLemmas.{all-begins, none-begins, step-begins}

@@ -7,7 +7,7 @@ use Rattle.lrat_text.specs.LogText.{log_fields, log_text}
 use Rattle.lrat_text.proofs.CutLemmas.{all-begins, grown, step-begins}
 use Rattle.lrat_text.proofs.write.push_lines.Goals as goal
 
--- a line more is written
+-- The text with another line appended.
 pub more : (text : List ℕ) (first i : ℕ) (lines : List Line) → i < length lines
     → (text ++ line_of (log_fields (first + i) (line_at lines i))) ++ log_text (first + (i + 1)) (drop (i + 1) lines) ≡ text ++ log_text (first + i) (drop i lines)
 unfolding log_text

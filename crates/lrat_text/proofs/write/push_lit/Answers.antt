@@ -1,4 +1,4 @@
--- Of a literal of the opposite there may be the sign alone.
+-- Of a negative literal, the sign alone may have been appended.
 use Rattle.std.proofs.Common.{◌∷◌, [], ℕ, List, decimal, subst}
 use Rattle.lrat_text.proofs.CutLemmas.{Begins, minus, then-begins, tried-begins}
 use Rattle.lrat_text.proofs.write.push_lit.Goals as goal

@@ -1,4 +1,4 @@
--- A literal at which memory runs out leaves a first part of the literals.
+-- If memory runs out at a literal, a first part of the literals was appended.
 use Rattle.std.proofs.Common.{◌∷◌, [], ℕ, List, ap, map, refl, sym}
 use Rattle.clause_db.specs.declared.lit.Lit.{Lit}
 use Rattle.lrat_text.specs.LogText.{lit_text, spaced}

@@ -1,4 +1,4 @@
--- What is kept of the lines is what was kept of them before the last was taken away.
+-- Removing the last line keeps the lines up to the first empty one.
 use Rattle.std.proofs.Common.{◌∙◌, ◌<◌, length, sym, ap, take, arith}
 use Rattle.std.proofs.lemmas.List.{take_all}
 use Rattle.open_tests.proofs.CutLemmas.{take-fewer}

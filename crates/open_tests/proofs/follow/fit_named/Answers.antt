@@ -1,4 +1,4 @@
--- The step is the one that its number names.
+-- The step is the one with this number.
 use Rattle.std.proofs.Common.{◌∙◌, [], ap, sym, unwrap_or}
 use Rattle.open_tests.proofs.FollowLemmas.{named-none, named-some}
 use Rattle.open_tests.proofs.follow.fit_named.Goals as goal

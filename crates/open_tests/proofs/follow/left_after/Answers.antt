@@ -1,5 +1,5 @@
--- Each step is of an active station of the scenario, moves the clock as the rule does, and gives the map channels of the
--- scenario's stations alone.
+-- Each step is of an active station of the scenario, moves the clock by the rule, and gives channels to the
+-- scenario's stations only.
 use Rattle.std.proofs.Common.{rules, ◌≡◌, ◌∙◌, ap, subst, arith, length, get_or, replicate}
 use Rattle.std.proofs.lemmas.Grind.{get_or_default_zero}
 use Rattle.auction_core.specs.Clock.{answered_clock}

@@ -1,4 +1,4 @@
--- The entries of an ascending set are the map on it.
+-- The entries of an ascending set's stations are the map on the set.
 use Rattle.std.proofs.Common.{◌∙◌, sym, subst}
 use Rattle.std.proofs.lemmas.Result.{IfOk-weaker}
 use Rattle.pack_defs.specs.ChannelMap.{IsAscending}

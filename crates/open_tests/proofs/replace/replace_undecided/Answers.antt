@@ -1,4 +1,4 @@
--- What comes out is the record with that step shown by the proof, of which the laws speak.
+-- The result is the record with that step settled by the proof, of which the laws speak.
 use Rattle.std.proofs.Common.{◌≡◌, List, ◌-◌, MatchOption, ap, sym, subst}
 use Rattle.std.specs.Prelude.{⊤}
 use Rattle.auction_core.specs.Backed.{IsBacked, undecided_of}

@@ -1,4 +1,4 @@
--- The lines that were let through are those of the log, up to the first empty one.
+-- The accepted lines are the log's, up to the first empty one.
 use Rattle.std.proofs.Common.{◌≡◌, ◌∙◌, ap, subst, sym}
 use Rattle.rup_check.specs.declared.line.Line.{Line}
 use Rattle.cert_types.specs.Outside.{IsOutsideProof}

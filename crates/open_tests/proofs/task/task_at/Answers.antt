@@ -1,4 +1,4 @@
--- The steps before it leave the clock and the map that its query is found by.
+-- The steps before it determine the clock and the map that its query is found from.
 use Rattle.std.proofs.Common.{◌∙◌, ◌+◌, ◌-◌, ap, sym, take}
 use Rattle.auction_core.specs.Prefix.{queries_taken}
 use Rattle.auction_core.specs.State.{restricted}

@@ -1,4 +1,4 @@
--- There is one for each text so far.
+-- There is one entry for each text so far.
 use Rattle.std.proofs.Common.{◌≡◌, length}
 use Rattle.outside_io.proofs.beside.write_each.Given as goal
 

@@ -3,7 +3,7 @@ use Rattle.std.proofs.KnownBytes.{Appends-trans}
 use Rattle.std.proofs.lemmas.List.{take_rest}
 use Rattle.outside_io.proofs.writing.write_all.Goals as goal
 
--- n bytes more are sent, and the others are left
+-- n more bytes are written, and the others are left
 sent_more : (bytes sent rest : List ℕ) (n : ℕ) → bytes ≡ sent ++ rest → bytes ≡ (sent ++ take n rest) ++ take (length rest - n) (drop n rest)
 sent_more bytes sent rest n parts =
     parts

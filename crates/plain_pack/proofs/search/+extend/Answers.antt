@@ -15,7 +15,7 @@ nil-of (x ∷ xs) h = absurd (omega arith)
 Contains-at : (xs : List ℕ) (i : ℕ) → i < length xs → Contains xs (get_or xs i 0)
 Contains-at xs i h = Contains-get_or xs i 0 h
 
--- a list without the last of its elements
+-- A list without its last element.
 without_last : (xs : List (ℕ × ℕ)) (x : ℕ × ℕ) (n : ℕ) → n ≡ length (xs ++ x ∷ []) → take (n - 1) (xs ++ x ∷ []) ≡ xs
 without_last xs x n e =
     let k : n - 1 ≡ length xs = omega (arith, length-append xs (x ∷ [])) in
@@ -27,7 +27,7 @@ returns-in_default t c =
     subst (λ z. Extends c.args.book.now c.args.chosen.now.items z c.args.chosen.now.items) (sym (nil-of c.args.left.now none))
     (extends-nil c.args.book.now c.args.chosen.now.items c.requires)
 
--- one place more of the channels
+-- One more of the channels.
 one_more : (channels : List ℕ) (i : ℕ) → i < length channels → take (i + 1) channels ≡ take i channels ++ get_or channels i 0 ∷ []
 one_more channels i h = take_more channels i 0 h
 

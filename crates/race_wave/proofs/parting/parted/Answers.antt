@@ -1,4 +1,4 @@
--- What is left of the runners, and what was put into both lists, make up all of them.
+-- The runners that are left, and the elements moved to both lists, make up all of them.
 use Rattle.std.proofs.Common.{◌≡◌}
 use Rattle.std.specs.Vec.Iter.{into_iter_items}
 use Rattle.race_wave.proofs.RunLemmas.{put-all, put-none, room-none}

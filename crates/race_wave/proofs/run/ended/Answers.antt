@@ -1,4 +1,4 @@
--- The auction goes on from where it stood.
+-- The auction continues from where it was.
 use Rattle.std.proofs.Common.{refl}
 use Rattle.answer_board.proofs.StandLemmas.{starts-itself}
 use Rattle.race_wave.proofs.run.ended.Goals as goal

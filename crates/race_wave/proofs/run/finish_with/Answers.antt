@@ -1,4 +1,4 @@
--- The record goes on from where the auction stood.
+-- The record continues from where the auction was.
 use Rattle.auction_core.proofs.GoesOn.{goes-in}
 use Rattle.race_wave.proofs.MeasureLemmas.{later-goes}
 use Rattle.race_wave.proofs.run.finish_with.Goals as goal

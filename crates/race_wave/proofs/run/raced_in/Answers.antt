@@ -1,4 +1,4 @@
--- What the history replays to is as near to the end as before, or nearer.
+-- The state after a wave is at least as near to the end as before.
 use Rattle.std.proofs.Common.{◌≡◌, ◌∙◌, ap, subst}
 use Rattle.turn_lock.specs.Turns.{StartsWith}
 use Rattle.auction_core.specs.Auction.{AuctionView}

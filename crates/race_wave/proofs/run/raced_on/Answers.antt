@@ -1,4 +1,4 @@
--- The history begins with the one that the board was raised with.
+-- The history begins with the one at the opening of the board.
 use Rattle.std.proofs.Common.{refl}
 use Rattle.answer_board.specs.Boards.{raised}
 use Rattle.race_wave.proofs.MeasureLemmas.{board-starts}

@@ -1,4 +1,4 @@
--- The auction opens in the order that it keeps, and its record goes on from what it opens with.
+-- The auction opens in the order that it keeps, and its record continues from its opening state.
 use Rattle.std.proofs.Common.{◌∙◌, ap, subst}
 use Rattle.std.specs.Prelude.{IfOk}
 use Rattle.pack_defs.specs.declared.order.Order.TheVariants.{ByVolume}

@@ -1,4 +1,4 @@
--- The writer writes the two fields with a comma between, since none needs quotes.
+-- The writer puts a comma between the two fields, since neither needs quotes.
 use Rattle.std.proofs.Common.{◌≡◌, ◌≢◌, ◌∙◌, ◌++◌, ap, decimal, rules, false}
 use Rattle.csv.specs.declared.writer.QuoteStyle.TheVariants as style
 use Rattle.std.specs.Result.{is_err}

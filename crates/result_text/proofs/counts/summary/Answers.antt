@@ -1,4 +1,4 @@
--- The lines are those of the rule's standings, and of the record's total.
+-- The lines are those of the rule's standings and of the record's total.
 use Rattle.std.proofs.Common.{◌∙◌}
 use Rattle.auction_core.specs.Backed.{undecided_of}
 use Rattle.result_text.proofs.StepLemmas.{carried-through}

@@ -1,4 +1,4 @@
--- Each step is of an active station of the scenario, in one of its rounds, and moves the clock as the rule does.
+-- Each step is of an active station of the scenario, in one of its rounds, and moves the clock by the rule.
 use Rattle.std.proofs.Common.{◌≡◌, ◌∙◌, ap, false, length, replicate, rules}
 use Rattle.auction_core.specs.Backed.{undecided_of}
 use Rattle.auction_core.proofs.ClockLemmas.{length-standings}

@@ -1,4 +1,4 @@
--- The writer writes the four fields with commas between, since none needs quotes.
+-- The writer puts commas between the four fields, since none needs quotes.
 use Rattle.std.proofs.Common.{◌≡◌, ◌≢◌, ◌∙◌, ◌++◌, ap, decimal, rules, false}
 use Rattle.csv.specs.declared.writer.QuoteStyle.TheVariants as style
 use Rattle.std.specs.Result.{is_err}

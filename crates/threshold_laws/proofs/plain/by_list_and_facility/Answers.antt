@@ -1,4 +1,4 @@
--- Each side computes, once the fall is known to be a list.
+-- Each side computes, once the fall is a list.
 use Rattle.std.proofs.Common.{◌+◌, ap, not, length}
 use Rattle.std.specs.Option.{option_map_or}
 use Rattle.pack_defs.specs.Prices.{bidders, declines_by_value, falls_from, prices_from, stays}

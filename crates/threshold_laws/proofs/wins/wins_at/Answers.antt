@@ -1,4 +1,4 @@
--- The scenario with the value has the same stations, and the rule on it freezes the station or doesn't.
+-- The scenario with the value has the same stations, and the rule decides whether the station is frozen.
 use Rattle.std.proofs.Common.{◌∙◌, [], ap, subst, sym}
 use Rattle.std.specs.List.Sorted.{IsStrictlyIncreasing}
 use Rattle.pack_defs.specs.Scenario.{facilities}

@@ -1,4 +1,4 @@
--- What the check of a whole transcript comes to.
+-- The result of following the complete transcript, in the words of the contract.
 use Rattle.std.proofs.Common.{◌≡◌, subst}
 use Rattle.auction_core.proofs.AuctionLemmas.{is-auction}
 use Rattle.auction_core.specs.Backed.{IsBacked, record_of}

@@ -1,4 +1,4 @@
--- What is gathered is what the law on records asks, where the channels are those of a file.
+-- The facts of the calls are the preconditions of the round-trip law, if the channels are those of a file.
 use Rattle.transcript_text.proofs.again.keeps_named_numbers.Goals as goal
 
 pub returns : goal.returns

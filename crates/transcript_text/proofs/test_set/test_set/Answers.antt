@@ -1,4 +1,4 @@
--- The standings give the stations on air, and these the test's set.
+-- The standings determine the stations on air, and these determine the test's set.
 use Rattle.std.proofs.Common.{◌≡◌, ◌∙◌, map}
 use Rattle.std.proofs.lemmas.Result.{IfOk-weaker}
 use Rattle.pack_defs.proofs.Words.{ascending-from}

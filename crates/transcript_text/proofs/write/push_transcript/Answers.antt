@@ -1,5 +1,5 @@
--- Each step is of an active station of the scenario, in one of its rounds, and moves the clock as the rule does. Its
--- text is the next part of the whole.
+-- Each step is of an active station of the scenario, in one of its rounds, and moves the clock by the rule. Its text
+-- is the next part of the transcript's.
 use Rattle.std.proofs.Common.{◌≡◌, ap, length, take}
 use Rattle.pack_defs.specs.ClockRule.{ClockState}
 use Rattle.auction_core.specs.Backed.{after_start, after_steps}

@@ -1,4 +1,4 @@
--- What is left of the other map, over the map as it is, gives the whole.
+-- Overlaying the entries still to come on the map so far gives the final map.
 use Rattle.std.proofs.Common.{◌≡◌, drop}
 use Rattle.pack_defs.specs.ChannelMap.{overlaid}
 use Rattle.auction_core.proofs.air_map.AirMap.overlay.Given as goal

@@ -1,4 +1,4 @@
--- By the lemma on a channel put at a place.
+-- By the lemma on a channel put into a slot.
 use Rattle.auction_core.proofs.Placed.{put-at}
 use Rattle.auction_core.proofs.air_map.AirMap.put.Goals as goal
 

@@ -1,4 +1,4 @@
--- What a history replays to keeps the rule, and goes on from where it began.
+-- The state to which a history replays keeps the rule and continues the opened state.
 use Rattle.std.proofs.Common.{◌≡◌, subst}
 use Rattle.auction_core.specs.Auction.{AuctionView, state_at}
 use Rattle.auction_core.specs.Postings.{GoesOn}

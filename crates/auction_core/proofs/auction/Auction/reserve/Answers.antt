@@ -1,4 +1,4 @@
--- No room is lost, whichever of the three wants memory.
+-- No room is lost, whichever of the three calls runs out of memory.
 use Rattle.std.proofs.Common.{◌≤◌, ◌-◌, vec_capacity, vec_len, subst}
 use Rattle.auction_core.specs.Auction.{AuctionView, spare_of}
 use Rattle.auction_core.proofs.AuctionLemmas.{spare-kept}

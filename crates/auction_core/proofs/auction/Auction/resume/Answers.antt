@@ -1,4 +1,4 @@
--- What is kept without a fault may be kept.
+-- The beginning of a transcript without a fault may be continued.
 use Rattle.auction_core.proofs.AuctionLemmas.{is-auction}
 use Rattle.auction_core.proofs.KeptLemmas.{kept-prefix}
 use Rattle.auction_core.proofs.auction.Auction.resume.Goals as goal

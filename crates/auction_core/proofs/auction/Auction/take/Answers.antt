@@ -1,4 +1,4 @@
--- With the posting's entry the history replays to the new state, which so keeps the rule.
+-- With the posting's entry the history replays to the new state, so that state keeps the rule.
 use Rattle.std.proofs.Common.{◌≡◌, ◌++◌, ◌∷◌, [], ◌≤◌, ◌-◌, vec_capacity, vec_len, ap, subst, sym, ◌∙◌, option_and_then}
 use Rattle.auction_core.specs.Auction.{entry_told, state_at}
 use Rattle.auction_core.specs.Replay.{kept_answer}

@@ -1,4 +1,4 @@
--- The query doesn't depend on what is noted, and its set ascends.
+-- The query does not depend on the pending receipts, and its set ascends.
 use Rattle.std.proofs.Common.{◌≡◌, MatchOption, subst, sym}
 use Rattle.std.proofs.lemmas.Result.{IfOk-weaker}
 use Rattle.std.specs.Prelude.{IfOk, ⊤}

@@ -1,4 +1,4 @@
--- No entry replays to the state where the clock stands.
+-- The empty history replays to the state of the query session.
 use Rattle.auction_core.proofs.AuctionLemmas.{first-between, state-of-clock}
 use Rattle.auction_core.proofs.auction.Auction.unnoted.Goals as goal
 

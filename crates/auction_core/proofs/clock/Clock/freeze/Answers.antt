@@ -1,4 +1,4 @@
--- One station fewer is still asked, and there is room for one price fewer.
+-- One active station fewer, and room for one price fewer.
 use Rattle.std.proofs.Common.{◌≡◌, ◌<◌, List, get_or, length, subst, sym}
 use Rattle.auction_core.specs.declared.clock.Standing.{Standing}
 use Rattle.auction_core.specs.declared.clock.Standing.TheVariants.{Active}

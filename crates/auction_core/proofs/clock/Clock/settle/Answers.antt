@@ -1,4 +1,4 @@
--- The station's own volume is that of its number, and an offer is bounded.
+-- The station's volume can be looked up by its number, and an offer is bounded.
 use Rattle.std.proofs.Common.{◌≤◌, ◌-◌, sym, subst, arith, set, None, ℕ, get_or}
 use Rattle.pack_defs.specs.declared.station.Station.{Station}
 use Rattle.pack_defs.specs.Scenario.{facilities}

@@ -1,4 +1,4 @@
--- What the auction opens with keeps the rule.
+-- The opening state keeps the rule.
 use Rattle.auction_core.proofs.ClockworkLemmas.{clockwork-opening}
 use Rattle.auction_core.proofs.clockwork.Clockwork.open.Goals as goal
 

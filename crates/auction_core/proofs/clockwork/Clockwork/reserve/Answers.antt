@@ -1,4 +1,4 @@
--- Room alone is another.
+-- Only the room changes.
 use Rattle.std.proofs.Common.{◌∙◌, ap, sym, subst}
 use Rattle.auction_core.specs.Clockwork.{ClockworkView, IsClockwork}
 use Rattle.auction_core.specs.Course.{CourseView, core_state, is_roomy}

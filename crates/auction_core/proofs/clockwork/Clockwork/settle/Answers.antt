@@ -1,4 +1,4 @@
--- A settled query keeps the rule, by how the start stands.
+-- A settled query keeps the rule, by whether the start was settled before.
 use Rattle.std.proofs.Common.{◌≡◌, ◌∙◌, ap, sym, subst, arith, length, false, true}
 use Rattle.auction_core.specs.Clockwork.{ClockworkView}
 use Rattle.auction_core.specs.Course.{core_state, is_roomy, left_of}

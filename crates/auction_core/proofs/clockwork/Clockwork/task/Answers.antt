@@ -1,4 +1,4 @@
--- The standing query by how the start stands; a solver may be asked it, by the rule.
+-- The current query, by whether the start was settled; by the rule, solvers may be run on it.
 use Rattle.std.proofs.Common.{◌∙◌, MatchOption, ap, subst, sym, Some}
 use Rattle.std.specs.Prelude.{⊤}
 use Rattle.cert_types.specs.Query.{IsQuery}

@@ -1,4 +1,4 @@
--- The query of the next test, part by part.
+-- The query of the next test, field by field.
 use Rattle.std.proofs.Common.{◌≡◌, ◌∙◌, ap, sym, Some}
 use Rattle.auction_core.specs.AirMap.{AirMapView}
 use Rattle.auction_core.specs.Clockwork.{ClockworkView}

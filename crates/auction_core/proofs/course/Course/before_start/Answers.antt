@@ -1,4 +1,4 @@
--- The course before the start test.
+-- The clock run before the start test.
 use Rattle.std.proofs.Common.{◌≡◌, ◌∙◌, None, [], ap, sym, subst, map}
 use Rattle.pack_defs.specs.declared.station.Station.{Station}
 use Rattle.pack_defs.specs.Scenario.{facilities}

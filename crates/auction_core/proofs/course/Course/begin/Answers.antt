@@ -1,4 +1,4 @@
--- The course once the start test is settled so, and where it goes on from there.
+-- The clock run once the start test is settled, and the first query after it.
 use Rattle.std.proofs.Common.{◌≡◌, ◌∙◌, ap, sym, subst, true, false}
 use Rattle.pack_defs.specs.Lists.{is_in}
 use Rattle.auction_core.specs.Course.{CourseView, IsCourse, core_state, is_roomy, left_of}

@@ -1,4 +1,4 @@
--- Where nothing is passed any more the clock is at rest.
+-- If no turn is skipped, the clock is at rest.
 use Rattle.std.proofs.Common.{◌∙◌, sym, ap}
 use Rattle.auction_core.specs.State.{start_fits}
 use Rattle.auction_core.proofs.CourseTests.{at-rest}

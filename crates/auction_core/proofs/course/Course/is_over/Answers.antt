@@ -1,4 +1,4 @@
--- The next turn tells whether a test is left.
+-- The next turn decides whether a test is left.
 use Rattle.std.proofs.Common.{◌≡◌, ◌∙◌, ◌<◌, inl, inr, arith, sym, length, eqb, ℕ}
 use Rattle.std.proofs.lemmas.Bool.{eq-eqb, ne_eqb}
 use Rattle.auction_core.proofs.CourseTests.{due-some, over-empty}

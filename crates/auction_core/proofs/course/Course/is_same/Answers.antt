@@ -1,4 +1,4 @@
--- In the first round there is none before; later the labels tell.
+-- In round 1 there is no earlier test; later the labels decide.
 use Rattle.std.proofs.Common.{◌≡◌, ◌∙◌, ◌≤◌, ℕ, ◌+◌, ap, sym, get_or, not, None, arith}
 use Rattle.pack_defs.specs.declared.station.Station.{Station}
 use Rattle.pack_defs.specs.ClockRule.{turns}

@@ -1,4 +1,4 @@
--- The course before the start test, with more room.
+-- The clock run before the start test, with more room.
 use Rattle.std.proofs.Common.{◌∙◌, ap, sym, subst}
 use Rattle.auction_core.specs.Course.{CourseView, IsCourse, core_state}
 use Rattle.auction_core.proofs.ClockworkLemmas.{course-roomier}

@@ -1,4 +1,4 @@
--- Past a turn where no query is due.
+-- A turn at which no query is due is skipped.
 use Rattle.std.proofs.Common.{◌≡◌, ◌∙◌, ◌<◌, false, ap, subst, sym, refl, length}
 use Rattle.pack_defs.specs.ClockRule.{is_active}
 use Rattle.auction_core.specs.Course.{CourseView, IsCourse, IsDue, clock_of, next_test}

@@ -1,4 +1,4 @@
--- The new fields are those of the course once its next test is settled so.
+-- The new fields are those of the clock run once its next test is settled.
 use Rattle.std.proofs.Common.{◌≡◌, ◌∙◌, ℕ, ◌+◌, ◌<◌, List, ◌∷◌, [], ◌++◌, None, ap, sym, subst, get_or, get_or-set_same, set, length, true}
 use Rattle.pack_defs.specs.declared.station.Station.{Station}
 use Rattle.pack_defs.specs.Lists.{has_station, is_in}

@@ -1,4 +1,4 @@
--- One place more is emptied; at the end every place is.
+-- One more slot is emptied; at the end every slot is empty.
 use Rattle.std.proofs.Common.{rules, refl}
 use Rattle.auction_core.proofs.Emptied.{emptied-next, all-emptied}
 use Rattle.auction_core.proofs.notes.Notes.clear.Goals as goal

@@ -1,4 +1,4 @@
--- The places before this one are empty, and no list is given out.
+-- The slots before this one are empty, and the list of receipts is unused.
 use Rattle.std.proofs.Common.{◌≡◌, [], length}
 use Rattle.auction_core.proofs.Emptied.{emptied}
 use Rattle.auction_core.proofs.notes.Notes.clear.Given as goal

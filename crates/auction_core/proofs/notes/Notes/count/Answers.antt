@@ -1,4 +1,4 @@
--- By the lemmas on one place more, with a receipt or without one.
+-- By the lemmas on one more slot, full or empty.
 use Rattle.std.proofs.Common.{rules, length, ap, ◌∙◌, arith}
 use Rattle.auction_core.specs.Notes.{notes_of}
 use Rattle.auction_core.proofs.NoteLemmas.{many-bound, one-more, all-counted}

@@ -1,4 +1,4 @@
--- Those counted and those among the places left are all.
+-- The count and the receipts in the remaining slots are all.
 use Rattle.std.proofs.Common.{◌≡◌, ◌+◌, drop}
 use Rattle.auction_core.proofs.NoteLemmas.{how_many}
 use Rattle.auction_core.proofs.notes.Notes.count.Given as goal

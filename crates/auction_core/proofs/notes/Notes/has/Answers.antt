@@ -1,4 +1,4 @@
--- By the lemmas on a worker's place; a worker past the last has none, so it is not noted.
+-- By the lemmas on a worker's slot; a worker without a slot has no pending receipt.
 use Rattle.std.proofs.Common.{rules, sym, ap, ◌∙◌, arith, le-ltb}
 use Rattle.auction_core.specs.Take.{is_noted}
 use Rattle.auction_core.proofs.NoteLemmas.{not-past, noted-at}

@@ -1,4 +1,4 @@
--- One place more, with a receipt or without one; at the end every place is empty.
+-- One more slot, full or empty; at the end every slot is empty.
 use Rattle.std.proofs.Common.{rules, ◌≡◌, ◌<◌, [], ◌∷◌, ◌++◌, length, ap, ◌∙◌, sym, None, Some, get_or, append_assoc}
 use Rattle.auction_core.proofs.Emptied.{emptied-next, place-is, all-emptied, first_receipts, passed-one, taken-one}
 use Rattle.auction_core.proofs.notes.Notes.move_into.Goals as goal

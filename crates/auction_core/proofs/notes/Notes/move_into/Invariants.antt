@@ -1,4 +1,4 @@
--- The places before this one are empty, their receipts stand in the list, and there is room for those of the others.
+-- The slots before this one are empty, their receipts are in the list, and the list has room for the others.
 use Rattle.std.proofs.Common.{◌≡◌, ◌≤◌, ◌+◌, ◌-◌, [], ◌++◌, length, vec_len, vec_capacity}
 use Rattle.auction_core.proofs.Emptied.{emptied, first_receipts}
 use Rattle.auction_core.proofs.notes.Notes.move_into.Given as goal

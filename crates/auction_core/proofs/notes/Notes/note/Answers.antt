@@ -1,4 +1,4 @@
--- By the lemma on a worker's empty place.
+-- By the lemma on a worker's empty slot.
 use Rattle.std.proofs.Common.{rules, ◌≡◌, false, sym, subst}
 use Rattle.auction_core.specs.Take.{is_noted}
 use Rattle.auction_core.proofs.NoteLemmas.{with-at}

@@ -1,4 +1,4 @@
--- One place for each turn, none with a receipt.
+-- One empty slot for each iteration.
 use Rattle.std.proofs.Common.{◌≡◌, [], length}
 use Rattle.auction_core.specs.Notes.{notes_of}
 use Rattle.auction_core.proofs.notes.Notes.of_none.Given as goal

@@ -1,4 +1,4 @@
--- Room for all receipts is there still.
+-- Room for all receipts is not lost.
 use Rattle.std.proofs.Common.{◌∙◌, arith, ap, length, vec_capacity}
 use Rattle.std.proofs.lemmas.Bool.{le-leb, leb-true}
 use Rattle.auction_core.specs.Notes.{NotesView}

@@ -1,4 +1,4 @@
--- The stations that are left decide.
+-- The remaining stations decide.
 use Rattle.std.proofs.Common.{◌≡◌, drop, nat_le}
 use Rattle.std.specs.List.{list_any}
 use Rattle.auction_core.specs.Parts.{label_of}

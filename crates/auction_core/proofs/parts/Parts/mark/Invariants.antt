@@ -1,4 +1,4 @@
--- The labels of the stations that are left are still to be marked.
+-- The labels of the remaining stations are still to be marked.
 use Rattle.std.proofs.Common.{◌≡◌, drop, length}
 use Rattle.auction_core.specs.Parts.{label_of, marked}
 use Rattle.auction_core.proofs.parts.Parts.mark.Given as goal

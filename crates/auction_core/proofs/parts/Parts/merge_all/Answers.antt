@@ -1,4 +1,4 @@
--- One station more.
+-- One more station.
 use Rattle.std.proofs.Common.{◌∙◌}
 use Rattle.auction_core.specs.Parts.{label_of}
 use Rattle.auction_core.proofs.PartLemmas.{merged-take}

@@ -1,4 +1,4 @@
--- The stations so far are merged.
+-- The components of the stations so far are merged.
 use Rattle.std.proofs.Common.{◌≡◌, take}
 use Rattle.auction_core.specs.Parts.{label_of, merged_labels}
 use Rattle.auction_core.proofs.parts.Parts.merge_all.Given as goal

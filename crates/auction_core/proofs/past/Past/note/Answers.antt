@@ -1,4 +1,4 @@
--- By the lemmas on one test more, shown by a fit or otherwise.
+-- By the lemmas on one more test, settled by a fit or otherwise.
 use Rattle.std.proofs.Common.{◌≡◌, ◌∙◌, ◌<◌, length, get_or, sym, subst}
 use Rattle.auction_core.specs.Past.{PastView}
 use Rattle.auction_core.proofs.PastLemmas.{fit-more, no-fit-more, now-seen}

@@ -1,4 +1,4 @@
--- The steps so far and those of the lines that are left are all.
+-- The steps so far and those of the remaining lines are all steps.
 use Rattle.std.proofs.Common.{◌≡◌, ◌++◌, drop}
 use Rattle.std.specs.Vec.Iter.{into_iter_items}
 use Rattle.auction_core.specs.StepList.{merged}

@@ -1,4 +1,4 @@
--- The lines of the steps are those that are kept.
+-- The lines of the merged steps are the stored lines.
 use Rattle.std.proofs.Common.{◌≡◌, ◌∙◌, MatchOption, Some, None, ap, option_map, refl, slice_get, subst, sym, true}
 use Rattle.std.specs.Bool.{⊤}
 use Rattle.std.proofs.lemmas.Option.{slice_get_past, slice_get_read}

@@ -1,4 +1,4 @@
--- By the lemmas on one step more, with a verdict of its own or without one.
+-- By the lemmas on one more step, with a verdict of its own or without one.
 use Rattle.std.proofs.Common.{◌∙◌, ◌++◌, ◌∷◌, [], ap}
 use Rattle.auction_core.specs.StepList.{StepListView}
 use Rattle.auction_core.proofs.StepLines.{kept-now, more-with, plain-with, steps-now}

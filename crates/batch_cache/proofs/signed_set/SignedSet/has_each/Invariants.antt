@@ -1,4 +1,4 @@
--- The stations that are left are all in the set exactly where all are.
+-- The stations that are left are all in the set exactly if all are.
 use Rattle.std.proofs.Common.{◌≡◌, drop}
 use Rattle.std.specs.List.{list_all}
 use Rattle.pack_defs.specs.Lists.{is_in}

@@ -1,4 +1,4 @@
--- What a first look found is valid.
+-- What a quick fit found is valid.
 use Rattle.cert_types.specs.Valid.{answer_fault}
 use Rattle.cdcl_prove.proofs.cdcl.Cdcl.attempt.Goals as goal
 

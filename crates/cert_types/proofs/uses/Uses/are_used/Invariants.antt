@@ -1,4 +1,4 @@
--- What is left decides as the whole does.
+-- The rest of the literals decides as all of them do.
 use Rattle.std.proofs.Common.{◌≡◌, drop}
 use Rattle.cert_types.specs.Uses.{are_used}
 use Rattle.cert_types.proofs.uses.Uses.are_used.Given as goal

@@ -1,4 +1,4 @@
--- One literal more.
+-- One more literal.
 use Rattle.std.proofs.Common.{◌∙◌, ap, refl}
 use Rattle.rup_check.specs.Known.{is_lit_within}
 use Rattle.cert_types.proofs.UseLemmas.{counted-end, counted-start, counted-step}

@@ -1,4 +1,4 @@
--- Those that are not left are counted.
+-- The literals visited so far are counted.
 use Rattle.std.proofs.Common.{◌≡◌, ℕ, ◌-◌, ◌^◌, length, min, true}
 use Rattle.clause_db.specs.declared.lit.Lit.{Lit}
 use Rattle.rup_check.specs.Known.{is_lit_within}

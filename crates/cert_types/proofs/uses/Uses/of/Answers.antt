@@ -1,4 +1,4 @@
--- One line more.
+-- One more line.
 use Rattle.rup_check.specs.Packed.{line_at}
 use Rattle.cert_types.proofs.LineLemmas.{line-here}
 use Rattle.cert_types.proofs.UseLemmas.{counted-line}

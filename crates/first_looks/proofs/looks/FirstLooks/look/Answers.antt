@@ -1,4 +1,4 @@
--- Where a free channel makes a fit by itself, it is proposed and passes.
+-- If a free channel makes a fit by itself, the channel is proposed and passes.
 use Rattle.first_looks.proofs.FreeLemmas.{not-refused, not-unproposed}
 use Rattle.first_looks.proofs.looks.FirstLooks.look.Goals as goal
 

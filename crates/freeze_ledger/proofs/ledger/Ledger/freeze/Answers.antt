@@ -1,4 +1,4 @@
--- The list with the entry ascends, and its sum is the old one and the price.
+-- The list with the entry ascends, and its sum is the old sum plus the price.
 use Rattle.std.proofs.Common.{◌≡◌, ◌∙◌, ◌+◌, ℕ, None, List, ap, sym, subst}
 use Rattle.std.specs.List.{insert}
 use Rattle.pack_defs.specs.ChannelMap.{IsAscending}

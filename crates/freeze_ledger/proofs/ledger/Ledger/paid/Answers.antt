@@ -1,4 +1,4 @@
--- The search finds the station's entry, or that there is none.
+-- The search finds the station's entry, or finds that there is none.
 use Rattle.std.proofs.Common.{◌<◌, ◌∙◌, length, rules, sym}
 use Rattle.std.proofs.lemmas.List.Sorted.{answers_always}
 use Rattle.pack_defs.proofs.MapLemmas.{channel_of-found, channel_of-none}

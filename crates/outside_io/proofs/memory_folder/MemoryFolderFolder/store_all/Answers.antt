@@ -1,4 +1,4 @@
--- Each file is stored behind those before it, or is the one that isn't.
+-- Each file is stored after those before it, or is the one that fails.
 use Rattle.std.proofs.Common.{◌∙◌, refl}
 use Rattle.outside_io.proofs.GroupLaws.{stops-here, stores-more}
 use Rattle.outside_io.proofs.memory_folder.MemoryFolderFolder.store_all.Goals as goal

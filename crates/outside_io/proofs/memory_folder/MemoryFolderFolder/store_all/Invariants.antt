@@ -1,4 +1,4 @@
--- The files up to here are stored, in order, and the file that is begun is left alone.
+-- The files up to here are stored, in order, and the open file is unchanged.
 use Rattle.std.proofs.Common.{◌≡◌, Some, map, take}
 use Rattle.outside_io.specs.Groups.{AreAllStored, stored_file}
 use Rattle.outside_io.proofs.GroupLaws.{memory_told}

@@ -1,4 +1,4 @@
--- Its files are not told, so its count of faults alone says what came of them.
+-- The folder is not modelled, so only the count of faults says whether the files were stored.
 use Rattle.std.proofs.Common.{map, refl, rules}
 use Rattle.outside_io.specs.Groups.{stored_file}
 use Rattle.outside_io.proofs.GroupLaws.{all-untold, stops-untold}

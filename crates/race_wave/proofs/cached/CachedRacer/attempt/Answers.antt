@@ -1,4 +1,4 @@
--- What a first look found is valid.
+-- A quick fit is a valid answer.
 use Rattle.cert_types.specs.Valid.{answer_fault}
 use Rattle.race_wave.proofs.cached.CachedRacer.attempt.Goals as goal
 

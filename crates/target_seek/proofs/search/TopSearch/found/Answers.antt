@@ -1,4 +1,4 @@
-use Rattle.target_seek.specs.declared.seek.Sought.TheVariants.{NoneFits}
+use Rattle.target_seek.specs.declared.sought.Sought.TheVariants.{NoneFits}
 use Rattle.target_seek.specs.Halving.{found_at}
 use Rattle.target_seek.proofs.HalvingLemmas.{halving-ends, truth-of, unfit-told}
 use Rattle.target_seek.proofs.search.TopSearch.found.Goals as goal

@@ -1,4 +1,4 @@
--- The standing at a station's place says whether it is on air.
+-- The standing at a station's place is whether the station is on air.
 use Rattle.std.proofs.Common.{◌∙◌, arith, ℕ, map, sym, rules}
 use Rattle.std.proofs.lemmas.List.{length-map}
 use Rattle.std.proofs.lemmas.List.Sorted.{answers_always}
