@@ -127,7 +127,7 @@ def relay(process, flow, life, mask):
     signal.set_wakeup_fd(-1)
     set_handlers(signal.SIG_DFL)
     tried(life.clear)
-    # A program that was told to stop would not have waited for that reader either.
+    # A program that got a signal would not have waited for that reader either.
     flow.drain(ended.si_code == os.CLD_EXITED or ended.si_status not in passed)
     return ended
 

@@ -220,7 +220,7 @@ fn is_refutation(refutation: &Refutation, want: Want) -> bool {
 }
 
 // Runs a step. Returns whether its answer is the expected one.
-fn goes(alloc: Global, cache: &mut Cache, book: &Book, step: Step) -> Result<bool, NoMemory> {
+fn step_matches(alloc: Global, cache: &mut Cache, book: &Book, step: Step) -> Result<bool, NoMemory> {
     let learner = worker(Kind::Cdcl, 2);
     match step {
         Step::Fit(set, entries) => keep_fit(alloc, cache, set, entries)?,
@@ -266,7 +266,7 @@ fn first_wrong(
     let book = three_stations(alloc, channels)?;
     let mut cache = Cache::make(alloc, room)?;
     for (i, step) in steps.iter().enumerate() {
-        if !goes(alloc, &mut cache, &book, *step)? {
+        if !step_matches(alloc, &mut cache, &book, *step)? {
             return Ok(Some(i));
         }
     }

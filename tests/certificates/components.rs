@@ -59,7 +59,7 @@ fn joined_by_a_third_pair(rt: HostRuntime) -> Result<(), Fail> {
 }
 
 #[test]
-fn no_way_through_a_station_off_air(rt: HostRuntime) -> Result<(), Fail> {
+fn off_air_stations_do_not_connect(rt: HostRuntime) -> Result<(), Fail> {
     let alloc = rt.alloc();
     let book = four_stations(alloc, &[apart(1, 2), apart(2, 3), apart(3, 4)])?;
     assert_eq!(rt;
@@ -99,7 +99,7 @@ impl StationSet for Marks {
 }
 
 #[test]
-fn among_marked_stations(rt: HostRuntime) -> Result<(), Fail> {
+fn component_among_marked(rt: HostRuntime) -> Result<(), Fail> {
     let alloc = rt.alloc();
     let book = four_stations(alloc, &[apart(1, 2), apart(2, 3), apart(3, 4)])?;
     let on = Marks {

@@ -95,7 +95,7 @@ fn bad_literals_before_hints(rt: HostRuntime) -> Result<(), Fail> {
 }
 
 #[test]
-fn first_hint_at_fault(rt: HostRuntime) -> Result<(), Fail> {
+fn invalid_first_hint(rt: HostRuntime) -> Result<(), Fail> {
     let alloc = rt.alloc();
     let clauses = three_stations(alloc)?;
     let two_open = answer(alloc, &clauses, &[-1], &[2, 7, 8, 3, 12])?;
@@ -104,8 +104,8 @@ fn first_hint_at_fault(rt: HostRuntime) -> Result<(), Fail> {
     assert_eq!(rt; true_already, Err(LineErr::NotUnit { hint: 2 }));
     let after_the_end = answer(alloc, &clauses, &[-1], &[7, 2, 8, 3, 12, 11])?;
     assert_eq!(rt; after_the_end, Err(LineErr::NotUnit { hint: 5 }));
-    let nought = answer(alloc, &clauses, &[-1], &[0])?;
-    assert_eq!(rt; nought, Err(LineErr::NoSuchClause { hint: 1 }));
+    let zero_lit = answer(alloc, &clauses, &[-1], &[0])?;
+    assert_eq!(rt; zero_lit, Err(LineErr::NoSuchClause { hint: 1 }));
     let itself = answer(alloc, &clauses, &[-1], &[7, 13])?;
     assert_eq!(rt; itself, Err(LineErr::NoSuchClause { hint: 2 }));
     let not_false = answer(alloc, &clauses, &[-1], &[7])?;
@@ -206,7 +206,7 @@ fn is_there(lines: &Lines, place: usize, number: i64, hint: u64) -> bool {
 }
 
 #[test]
-fn numbers_of_each_length_are_read_again(rt: HostRuntime) -> Result<(), Fail> {
+fn numbers_of_each_length_round_trip(rt: HostRuntime) -> Result<(), Fail> {
     let alloc = rt.alloc();
     let numbers = [
         1,

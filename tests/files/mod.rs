@@ -4,6 +4,6 @@ mod books;
 mod constraints;
 mod folders;
 mod lists;
-mod made;
+mod generated;
 mod owners;
 mod scenarios;

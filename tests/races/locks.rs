@@ -122,7 +122,7 @@ fn passes_are_used_one_after_another(rt: HostRuntime) -> Result<(), Fail> {
 }
 
 // Returns the value of a lock that is closed at once. If memory for the lock runs out, returns the value that came back.
-fn there_and_back(alloc: Global, list: NumberList) -> NumberList {
+fn make_and_close(alloc: Global, list: NumberList) -> NumberList {
     match TurnLock::make(alloc, list, 3) {
         Ok((lock, passes)) => lock.close(passes),
         Err((_, list)) => list,
@@ -131,7 +131,7 @@ fn there_and_back(alloc: Global, list: NumberList) -> NumberList {
 
 #[test]
 fn the_value_comes_back(rt: HostRuntime) -> Result<(), Fail> {
-    let list = there_and_back(rt.alloc(), five(rt.alloc(), 0)?);
+    let list = make_and_close(rt.alloc(), five(rt.alloc(), 0)?);
     assert!(rt; added(&list).is_some_and(|added| added.is_empty()));
     Ok(())
 }

@@ -141,8 +141,8 @@ def cases(name, weight, script, make=program_job):
 
     def read(printed, status):
         found = [Result(f"{name}: {case}", name, "passed" if word == "ok" else "failed", why) for word, case, why in CASE.findall(printed)]
-        is_told = status == 0 or any(result.outcome == "failed" for result in found)
-        return found if found and is_told else [*found, *by_status(name)(printed, 1)]
+        is_complete = status == 0 or any(result.outcome == "failed" for result in found)
+        return found if found and is_complete else [*found, *by_status(name)(printed, 1)]
 
     return make(name, weight, (script,), read)
 
@@ -156,8 +156,8 @@ def memory():
             # If no growth is counted, none was refused.
             is_good = int(growths) > 0 and int(otherwise) == 0
             found.append(Result(f"memory: {name}", "memory", "passed" if is_good else "failed", last_lines(printed)))
-        is_told = status == 0 or any(result.outcome == "failed" for result in found)
-        return found if found and is_told else [*found, *by_status("memory")(printed, 1)]
+        is_complete = status == 0 or any(result.outcome == "failed" for result in found)
+        return found if found and is_complete else [*found, *by_status("memory")(printed, 1)]
 
     return program_job("memory", 90, ("tests/search/memory", "--short"), read)
 

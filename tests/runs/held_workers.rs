@@ -1,7 +1,7 @@
 //! A run whose two workers meet at each query, by a gate that the program receives.
 
 use crate::samples::gates::Meeting;
-use crate::scenes::scene::{RUN, Scene, leaves_at};
+use crate::scenes::scene::{RUN, Scene, outputs_match_with_gate};
 use std::test::Fail;
 
 // The three stations and two workers, each with a budget that decides every query.
@@ -19,7 +19,7 @@ const LEFT: &str =
 #[test]
 fn both_workers_of_a_run_meet_at_each_query(rt: HostRuntime) -> Result<(), Fail> {
     let gate = Meeting::new();
-    assert!(rt; leaves_at(&rt, rt.alloc(), &TWO_LEARN, &gate, LEFT)?);
+    assert!(rt; outputs_match_with_gate(&rt, rt.alloc(), &TWO_LEARN, &gate, LEFT)?);
     assert_eq!(rt; gate.first_met(), 12_345);
     assert_eq!(rt; gate.second_met(), 12_345);
     Ok(())

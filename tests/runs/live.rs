@@ -1,7 +1,7 @@
 //! Results of `live` and `verify-live`.
 
 use crate::scenes::change::Change;
-use crate::scenes::scene::{RUN, Scene, first_untrue, leaves, verifies};
+use crate::scenes::scene::{RUN, Scene, first_untrue, outputs_match, verifies};
 use crate::scenes::stations::{
     LIVE, ONE_LINE, THREE, THREE_PLAIN, TRANSCRIPT, TWO_PLAIN, VERIFY, VERIFY_LIVE,
 };
@@ -134,7 +134,7 @@ const REFUSED: &[(&str, &str)] = &[
 ];
 
 // Returns the line of the first owners' file that `live` or `verify-live` does not reject with that line.
-fn first_let_through<'a, W: Threads + Wait + Sync>(
+fn first_accepted<'a, W: Threads + Wait + Sync>(
     rt: &W,
     alloc: Global,
     table: &[(&str, &'a str)],
@@ -149,7 +149,7 @@ fn first_let_through<'a, W: Threads + Wait + Sync>(
                 owners: Some(owners),
                 ..SAID
             };
-            if !leaves(rt, alloc, &scene, &facts)? {
+            if !outputs_match(rt, alloc, &scene, &facts)? {
                 return Ok(Some(line));
             }
         }
@@ -159,7 +159,7 @@ fn first_let_through<'a, W: Threads + Wait + Sync>(
 
 #[test]
 fn owners_are_refused(rt: HostRuntime) -> Result<(), Fail> {
-    assert_eq!(rt; first_let_through(&rt, rt.alloc(), REFUSED)?, None);
+    assert_eq!(rt; first_accepted(&rt, rt.alloc(), REFUSED)?, None);
     Ok(())
 }
 

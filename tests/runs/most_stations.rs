@@ -1,6 +1,6 @@
 //! A run of 8,192 stations, the maximum for a scenario.
 
-use crate::scenes::scene::{RUN, Scene, leaves};
+use crate::scenes::scene::{RUN, Scene, outputs_match};
 use crate::scenes::stations::{domain_rows, free_stations};
 use std::alloc::{AllocError as NoMemory, Global};
 use std::sync::Wait;
@@ -16,7 +16,7 @@ const ALL_ON_AIR: &str =
     "status 0; said: stations 8192\non-air 8192\nfrozen 0\nundecided 0\ntotal 0\n; channels of the map; tr.txt begins: transcript 2, start empty; tr.txt ends: end 8192";
 
 // Checks whether a run of `count` stations has these facts. Each station has value 0 and only channel 14; no row names any.
-fn leaves_of<W: Threads + Wait + Sync>(
+fn outputs_match_for<W: Threads + Wait + Sync>(
     rt: &W,
     alloc: Global,
     count: u32,
@@ -31,7 +31,7 @@ fn leaves_of<W: Threads + Wait + Sync>(
         stations: &stations,
         ..RUN
     };
-    leaves(rt, alloc, &scene, facts)
+    outputs_match(rt, alloc, &scene, facts)
 }
 
 // A value of 0 is not above the opening offer of 100, and no station starts on air. Each is tested in round 1. Without a row no two
@@ -39,6 +39,6 @@ fn leaves_of<W: Threads + Wait + Sync>(
 // each station that fits goes on air, whatever its value. None is frozen, and nothing is paid.
 #[test]
 fn all_of_the_most_stations_go_on_air(rt: HostRuntime) -> Result<(), Fail> {
-    assert!(rt; leaves_of(&rt, rt.alloc(), MOST, ALL_ON_AIR)?);
+    assert!(rt; outputs_match_for(&rt, rt.alloc(), MOST, ALL_ON_AIR)?);
     Ok(())
 }

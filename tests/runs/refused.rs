@@ -1,7 +1,7 @@
 //! `run` and `check` reject invalid inputs, each with one line.
 
 use crate::scenes::change::Change;
-use crate::scenes::scene::{RUN, Scene, are_refused, first_untrue_words, leaves};
+use crate::scenes::scene::{RUN, Scene, are_refused, first_untrue_words, outputs_match};
 use crate::scenes::stations::{CHECK, domain_rows};
 use std::alloc::{AllocError as NoMemory, Global};
 use std::sync::Wait;
@@ -9,7 +9,7 @@ use std::test::Fail;
 use std::thread::Threads;
 
 // Returns the line of the first row whose change of the inputs is not rejected with that line.
-fn first_let_through<'a, W: Threads + Wait + Sync>(
+fn first_accepted<'a, W: Threads + Wait + Sync>(
     rt: &W,
     alloc: Global,
     table: &[(Change<'_>, &'a str)],
@@ -106,12 +106,12 @@ const REFUSED: &[(Change<'static>, &str)] = &[
 
 #[test]
 fn inputs_are_refused(rt: HostRuntime) -> Result<(), Fail> {
-    assert_eq!(rt; first_let_through(&rt, rt.alloc(), REFUSED)?, None);
+    assert_eq!(rt; first_accepted(&rt, rt.alloc(), REFUSED)?, None);
     Ok(())
 }
 
 // Checks whether `check` on `count` stations has these facts.
-fn leaves_of<W: Threads + Wait + Sync>(
+fn outputs_match_for<W: Threads + Wait + Sync>(
     rt: &W,
     alloc: Global,
     count: u32,
@@ -124,13 +124,13 @@ fn leaves_of<W: Threads + Wait + Sync>(
         rows: "",
         ..RUN
     };
-    leaves(rt, alloc, &scene, facts)
+    outputs_match(rt, alloc, &scene, facts)
 }
 
 #[test]
 fn too_many_domains_are_refused(rt: HostRuntime) -> Result<(), Fail> {
     let facts = "status 5; said: d.csv: line 65537: too many\n; nothing stored; no record";
-    assert!(rt; leaves_of(&rt, rt.alloc(), 65_537, facts)?);
+    assert!(rt; outputs_match_for(&rt, rt.alloc(), 65_537, facts)?);
     Ok(())
 }
 

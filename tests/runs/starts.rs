@@ -78,7 +78,7 @@ const STARTS: &[(Scene<'static>, &str)] = &[
 ];
 
 #[test]
-fn start_sets_are_refuted_or_left_open(rt: HostRuntime) -> Result<(), Fail> {
+fn start_sets_are_refuted_or_undecided(rt: HostRuntime) -> Result<(), Fail> {
     assert_eq!(rt; first_untrue(&rt, rt.alloc(), STARTS)?, None);
     Ok(())
 }

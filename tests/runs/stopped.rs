@@ -1,7 +1,7 @@
 //! Results of a run whose folder or sink fails, and of words that are no command.
 
 use crate::scenes::change::Change;
-use crate::scenes::scene::{RUN, Scene, first_untrue_change, leaves};
+use crate::scenes::scene::{RUN, Scene, first_untrue_change, outputs_match};
 use crate::scenes::stations::CHECK;
 use std::alloc::{AllocError as NoMemory, Global};
 use std::sync::Wait;
@@ -173,10 +173,10 @@ fn first_command<'a, W: Threads + Wait + Sync>(
     for &line in lines {
         let scene = Scene {
             command: line,
-            change: Change::Bare,
+            change: Change::Channelless,
             ..RUN
         };
-        if !leaves(rt, alloc, &scene, "status 2; something said; no record")? {
+        if !outputs_match(rt, alloc, &scene, "status 2; something said; no record")? {
             return Ok(Some(line));
         }
     }

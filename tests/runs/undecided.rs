@@ -1,6 +1,6 @@
 //! Workers that spend their budgets, alone and together with workers that decide.
 
-use crate::scenes::scene::{RUN, Scene, leaves};
+use crate::scenes::scene::{RUN, Scene, outputs_match};
 use std::alloc::{AllocError as NoMemory, Global};
 use std::sync::Wait;
 use std::test::Fail;
@@ -14,7 +14,7 @@ fn first_untrue_by<'a, W: Threads + Wait + Sync>(
 ) -> Result<Option<&'a str>, NoMemory> {
     for &(workers, facts) in table {
         let scene = Scene { workers, ..RUN };
-        if !leaves(rt, alloc, &scene, facts)? {
+        if !outputs_match(rt, alloc, &scene, facts)? {
             return Ok(Some(workers));
         }
     }

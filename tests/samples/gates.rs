@@ -8,7 +8,7 @@ use std::thread;
 const TURNS: u32 = 10_000_000;
 
 /// Waits until the word is at least `number`. Returns whether that happened in time.
-pub fn comes(word: &AtomicU64, number: u64) -> bool {
+pub fn reaches_in_time(word: &AtomicU64, number: u64) -> bool {
     for _ in 0..TURNS {
         if word.load(Ordering::SeqCst) >= number {
             return true;
@@ -66,12 +66,12 @@ impl Gate for Meeting {
         match (spot, worker) {
             (Spot::BeforePost, 0) => {
                 self.came.store(number, Ordering::SeqCst);
-                if comes(&self.answered, number) {
+                if reaches_in_time(&self.answered, number) {
                     note(&self.first, number);
                 }
             }
             (Spot::BeforePost, _) => {
-                if comes(&self.came, number) {
+                if reaches_in_time(&self.came, number) {
                     note(&self.second, number);
                 }
             }

@@ -7,7 +7,7 @@ use std::alloc::{AllocError as NoMemory, Global};
 pub type SaidLines = &'static [(u32, u32, bool)];
 
 /// Returns the owners with these lines.
-pub fn saying(alloc: Global, lines: SaidLines) -> Result<Owners, NoMemory> {
+pub fn owners_of_lines(alloc: Global, lines: SaidLines) -> Result<Owners, NoMemory> {
     let mut owners = Owners::new(alloc);
     for (round, station, stays) in lines {
         owners.add(OwnerLine {

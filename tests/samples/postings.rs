@@ -37,7 +37,7 @@ fn place(fault: CertifyFault) -> Result<Place, NoMemory> {
 }
 
 // Returns the checked answer of a worker to the current query.
-fn looked_at(
+fn judged_answer(
     alloc: Global,
     auction: &Auction,
     worker: u32,
@@ -65,7 +65,7 @@ pub fn post(
 ) -> Result<Reply, NoMemory> {
     auction.reserve()?;
     let answer = answer(alloc, given)?;
-    let said = looked_at(alloc, auction, worker, answer)?;
+    let said = judged_answer(alloc, auction, worker, answer)?;
     Ok(auction.take(Posting {
         worker,
         number,

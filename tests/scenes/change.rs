@@ -18,7 +18,7 @@ pub enum Change<'a> {
     /// The input of this name is missing.
     Missing(&'a str),
     /// All inputs are missing.
-    Bare,
+    Channelless,
     /// The folder's call with this number fails.
     Call(u64),
     /// The input of this name has this text, and the folder's call with this number fails.
@@ -39,7 +39,7 @@ impl<'a> Change<'a> {
             Change::Stops(at, other, _) if at == name => Some(other.as_bytes()),
             Change::Garbled(at) if at == name => Some(NO_TEXT),
             Change::Missing(at) if at == name => None,
-            Change::Bare => None,
+            Change::Channelless => None,
             _ => Some(text.as_bytes()),
         }
     }

@@ -4,7 +4,7 @@
 //!
 //! Read `scene` first: a command over the files of one auction, and one change (`change`). Most auctions use the files of three
 //! stations (`stations`). `named` has several scenarios next to one another, for commands with other files. `outside` makes the
-//! folder and the sink and runs the program; `told` and `record_text` describe the result.
+//! folder and the sink and runs the program; `run_outputs` and `record_text` describe the result.
 
 pub mod change;
 pub mod named;
@@ -12,4 +12,4 @@ pub mod outside;
 mod record_text;
 pub mod scene;
 pub mod stations;
-pub mod told;
+pub mod run_outputs;

@@ -6,7 +6,7 @@ use crate::scenes::outside::{add, folder_of, is_kept};
 use crate::scenes::stations::{
     CLOCK, DOMAINS, MANY_LINES, ONE_LINE, ROWS, THREE, THREE_PLAIN, scenario_text,
 };
-use crate::scenes::told::kept_text;
+use crate::scenes::run_outputs::kept_text;
 use outside_io::memory_folder::MemoryFolder;
 use std::alloc::{AllocError as NoMemory, Global};
 

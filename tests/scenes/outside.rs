@@ -1,7 +1,7 @@
 //! A folder and a sink in memory, and a run of the program on them.
 
 use crate::scenes::change::Change;
-use crate::scenes::told::told;
+use crate::scenes::run_outputs::run_text;
 use auction_cmd::auction::auction_main;
 use outside_io::memory_folder::{MemoryFile, MemoryFolder};
 use outside_io::memory_sink::MemorySink;
@@ -78,5 +78,5 @@ pub fn run_in<G: Gate + Sync, W: Threads + Wait + Sync>(
     let words = words_of(alloc, line)?;
     let mut sink = sink_of(alloc, change)?;
     let finish = auction_main(rt, alloc, &words, folder, &mut sink, gate);
-    told(alloc, &finish, folder, &sink)
+    run_text(alloc, &finish, folder, &sink)
 }

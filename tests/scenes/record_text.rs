@@ -105,7 +105,7 @@ fn ending_text(ending: Ending) -> &'static str {
 }
 
 // Returns the text of a record's map.
-fn air_text(alloc: Global, map: &[(u32, u8)]) -> Result<String, NoMemory> {
+fn map_text_of(alloc: Global, map: &[(u32, u8)]) -> Result<String, NoMemory> {
     let list = stations_text(alloc, map)?;
     let stations = list_text(&list);
     let list = map_text(alloc, map)?;
@@ -126,7 +126,7 @@ fn record_text(alloc: Global, record: &Record) -> Result<String, NoMemory> {
     let ending = ending_text(record.ending);
     let total = record.total;
     let tests = tests_text(alloc, record)?;
-    let air = air_text(alloc, record.map.entries())?;
+    let air = map_text_of(alloc, record.map.entries())?;
     format!(in alloc; "a record; ending: {ending}; {tests}; {air}; total: {total}")
 }
 
@@ -141,12 +141,12 @@ pub fn found_text(alloc: Global, found: &Option<Record>) -> Result<String, NoMem
 /// Returns how the start test with one channel fewer was decided, if there was one.
 pub fn below_text(alloc: Global, below: &Option<Record>) -> Result<String, NoMemory> {
     match below {
-        Some(record) => below_told(alloc, record),
+        Some(record) => below_record_text(alloc, record),
         None => String::from_str(alloc, "no record below"),
     }
 }
 
-fn below_told(alloc: Global, record: &Record) -> Result<String, NoMemory> {
+fn below_record_text(alloc: Global, record: &Record) -> Result<String, NoMemory> {
     let ending = ending_text(record.ending);
     match &record.start {
         Shown::Undecided(receipts) => {

@@ -6,7 +6,7 @@ use crate::scenes::stations::{
     CHECK, CLOCK, COMMAND, DOMAINS, LIVE, MANY_LINES, ROWS, THREE, VERIFY, VERIFY_LIVE,
     scenario_text,
 };
-use crate::scenes::told::{are_among, faults_text, held_text, kept_text, proof_text};
+use crate::scenes::run_outputs::{are_among, faults_text, held_text, kept_text, proof_text};
 use outside_io::memory_folder::{MemoryFile, MemoryFolder};
 use solver_gate::gate::{EmptyGate, Gate};
 use std::alloc::{AllocError as NoMemory, Global};
@@ -176,17 +176,17 @@ fn run_and_verify<W: Threads + Wait + Sync>(
 }
 
 /// Checks whether the run of a scene has these facts.
-pub fn leaves<W: Threads + Wait + Sync>(
+pub fn outputs_match<W: Threads + Wait + Sync>(
     rt: &W,
     alloc: Global,
     scene: &Scene<'_>,
     facts: &str,
 ) -> Result<bool, NoMemory> {
-    leaves_at(rt, alloc, scene, &EmptyGate, facts)
+    outputs_match_with_gate(rt, alloc, scene, &EmptyGate, facts)
 }
 
 /// Checks whether the run of a scene whose workers call this gate has these facts.
-pub fn leaves_at<G: Gate + Sync, W: Threads + Wait + Sync>(
+pub fn outputs_match_with_gate<G: Gate + Sync, W: Threads + Wait + Sync>(
     rt: &W,
     alloc: Global,
     scene: &Scene<'_>,
@@ -215,7 +215,7 @@ pub fn first_untrue<'a, W: Threads + Wait + Sync>(
     table: &[(Scene<'_>, &'a str)],
 ) -> Result<Option<&'a str>, NoMemory> {
     for (scene, facts) in table {
-        if !leaves(rt, alloc, scene, facts)? {
+        if !outputs_match(rt, alloc, scene, facts)? {
             return Ok(Some(facts));
         }
     }
@@ -230,7 +230,7 @@ pub fn first_untrue_words<'a, W: Threads + Wait + Sync>(
 ) -> Result<Option<&'a str>, NoMemory> {
     for &(command, facts) in table {
         let scene = Scene { command, ..RUN };
-        if !leaves(rt, alloc, &scene, facts)? {
+        if !outputs_match(rt, alloc, &scene, facts)? {
             return Ok(Some(command));
         }
     }
@@ -246,7 +246,7 @@ pub fn first_untrue_change<'a, W: Threads + Wait + Sync>(
 ) -> Result<Option<&'a str>, NoMemory> {
     for &(change, facts) in table {
         let changed = Scene { change, ..*scene };
-        if !leaves(rt, alloc, &changed, facts)? {
+        if !outputs_match(rt, alloc, &changed, facts)? {
             return Ok(Some(facts));
         }
     }
@@ -271,5 +271,5 @@ pub fn are_refused<W: Threads + Wait + Sync>(
         command: CHECK,
         ..scene
     };
-    Ok(leaves(rt, alloc, &run, &facts)? && leaves(rt, alloc, &check, &facts)?)
+    Ok(outputs_match(rt, alloc, &run, &facts)? && outputs_match(rt, alloc, &check, &facts)?)
 }

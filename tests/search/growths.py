@@ -1,4 +1,4 @@
-"""Runs a program and counts its growths, refuses one of them on request, and measures its memory (`refuse.c`)."""
+"""Runs a program and counts its growths, refuses one of them on request, and measures its memory (`fail_allocation.c`)."""
 import os
 import pathlib
 import shutil
@@ -8,7 +8,7 @@ import sys
 import typing
 from subprocess import DEVNULL as NONE, PIPE
 
-SOURCE = pathlib.Path(__file__).resolve().parent / "refuse.c"
+SOURCE = pathlib.Path(__file__).resolve().parent / "fail_allocation.c"
 # The numbers of the library, in its order.
 NUMBERS = struct.Struct("6q")
 # The most seconds of a run.
@@ -41,7 +41,7 @@ class Counted:
     """The library, built in a folder, and the file of its numbers."""
 
     def __init__(self, folder):
-        self.library, self.numbers = folder / "refuse.so", folder / "growths"
+        self.library, self.numbers = folder / "fail_allocation.so", folder / "growths"
         for compiler in compilers():
             command = [*compiler, "-O1", "-shared", "-fPIC", "-o", self.library, SOURCE]
             if shutil.which(compiler[0]) and subprocess.run(command, stderr=subprocess.DEVNULL).returncode == 0:

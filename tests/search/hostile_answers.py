@@ -15,7 +15,7 @@ import json
 import os
 import re
 
-from beginnings import Kept
+from prefixes import Kept
 
 # The statuses of each command, except 2, which depends on the words, and 8: memory is ample.
 STATUSES = {
@@ -126,7 +126,7 @@ def told(order, status, before):
     return [(re.escape(names[i]) + b": (" + LINES[kinds[i]] + b")", order.inputs[i]) for i in some]
 
 
-def is_told(printed, lines, before):
+def is_complete(printed, lines, before):
     """Checks whether the output is one of these lines. A line number may be at most the file's number of lines, plus one."""
     for pattern, name in lines:
         found = re.fullmatch(pattern + b"\n", printed)
@@ -142,7 +142,7 @@ def look_at_line(order, status, printed, before):
     if twice is not None:
         need(status == 5 and printed == os.fsencode(twice) + b": given twice\n", f"{twice!r} is given twice")
     elif status > 1:
-        need(is_told(printed, told(order, status, before), before), "no line of this status")
+        need(is_complete(printed, told(order, status, before), before), "no line of this status")
 
 
 def look_at_result(text):
@@ -162,8 +162,8 @@ def look_at_top(order, status, printed, after):
     need(found, "no top channel")
     top, below = int(found[1]), found[3]
     need(14 <= top <= 51, "a top channel that none may be")
-    need((status == 1) == (below is not None), "the status isn't that of the open test")
-    need(below is None or int(below) == top - 1, "the open test is of another channel")
+    need((status == 1) == (below is not None), "the status isn't that of the undecided test")
+    need(below is None or int(below) == top - 1, "the undecided test is of another channel")
     channels = after[order.outputs[0]]
     need(CHANNELS.fullmatch(channels), "no text of CHANNELS")
     need(all(14 <= int(line.split(b",")[1]) <= top for line in channels.splitlines()[1:]), "a channel above the top")
@@ -326,7 +326,7 @@ def look_at_batch(case, words, status, printed, after):
     changed = {name for name in {**before, **after} if before.get(name) != after.get(name)}
     if status in (3, 5):
         may = set()
-        need(case.full or is_told(printed, batch.told(status), before), "no line of this status")
+        need(case.full or is_complete(printed, batch.told(status), before), "no line of this status")
     elif status == 4:
         may = {file_of(result) for _, result in may_store(batch, case, printed)}
         for name in changed & may:

@@ -1,7 +1,7 @@
 //! Answers of the solvers, and the trail that they search on.
 
 mod learners;
-mod looks;
+mod quick_fits;
 mod plain;
 mod racers;
 mod samples;

@@ -78,7 +78,7 @@ fn a_station_without_a_channel_does_not_fit(rt: HostRuntime) -> Result<(), Fail>
 }
 
 #[test]
-fn goes_back_from_a_channel_that_leads_nowhere(rt: HostRuntime) -> Result<(), Fail> {
+fn search_backtracks(rt: HostRuntime) -> Result<(), Fail> {
     let alloc = rt.alloc();
     let domains = [
         station_on(alloc, 1, &[14, 15])?,

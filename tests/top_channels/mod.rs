@@ -1,5 +1,5 @@
 //! Tests of the commands `seek` and `make`, which run the whole program with `scenes`.
 
-mod made;
+mod generated;
 mod search;
 mod seek;

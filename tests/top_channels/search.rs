@@ -183,7 +183,7 @@ fn is_driven_without_a_test_of_tops(rt: HostRuntime) -> Result<(), Fail> {
     let mut search = TopSearch::new(14, 51);
     while let Some(top) = search.next() {
         tops.push(top)?;
-        search = search.told(answer_at(20, &[19], top));
+        search = search.with_top_answer(answer_at(20, &[19], top));
     }
     assert_eq!(rt; search.found(), Sought::AboveOpen { top: 20 });
     assert_eq!(rt; tops.as_slice(), [51, 32, 23, 18, 21, 20, 19].as_slice());

@@ -1,7 +1,7 @@
 //! Invalid files, and the line that reports each.
 
 use crate::scenes::change::Change;
-use crate::scenes::scene::{RUN, Scene, are_refused, leaves};
+use crate::scenes::scene::{RUN, Scene, are_refused, outputs_match};
 use crate::scenes::stations::TRANSCRIPT;
 use crate::verify::verified::{CHECKED, ONE, leaves_changed};
 use std::alloc::{AllocError as NoMemory, Global};
@@ -53,7 +53,7 @@ fn is_on_air<W: Threads + Wait + Sync>(
 ) -> Result<bool, NoMemory> {
     let facts = format!(in alloc; "status 0; start: fits; chan.csv: {channels}; inputs kept")?;
     let scene = Scene { domains, ..STARTED };
-    leaves(rt, alloc, &scene, &facts)
+    outputs_match(rt, alloc, &scene, &facts)
 }
 
 // Checks the answer of a row: the line that reports the invalid file, or the stored channels.

@@ -2,5 +2,5 @@
 
 mod bad_files;
 mod proofs;
-mod unshown;
+mod invalid_steps;
 mod verified;

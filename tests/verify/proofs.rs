@@ -1,7 +1,7 @@
 //! `export` stores the formula of a step, and `import` replaces an undecided step by a proof.
 
 use crate::scenes::change::Change;
-use crate::scenes::scene::{RUN, Scene, first_untrue, leaves};
+use crate::scenes::scene::{RUN, Scene, first_untrue, outputs_match};
 use crate::scenes::stations::{ONE_LINE, TRANSCRIPT};
 use crate::verify::verified::{CHECKED, FROM_AIR, ONE};
 use std::alloc::{AllocError as NoMemory, Global};
@@ -173,7 +173,7 @@ fn first_untrue_log<'a, W: Threads + Wait + Sync>(
             log: Some(log),
             ..IMPORT
         };
-        if !leaves(rt, alloc, &scene, facts)? {
+        if !outputs_match(rt, alloc, &scene, facts)? {
             return Ok(Some(log));
         }
     }

@@ -1,7 +1,7 @@
 //! `verify` on transcripts that are valid, or whose text is rejected.
 
 use crate::scenes::change::{Change, replaced};
-use crate::scenes::scene::{RUN, Scene, first_untrue, first_untrue_change, leaves, verifies};
+use crate::scenes::scene::{RUN, Scene, first_untrue, first_untrue_change, outputs_match, verifies};
 use crate::scenes::stations::{MANY_LINES, ONE_LINE, TRANSCRIPT, VERIFY};
 use std::alloc::{AllocError as NoMemory, Global};
 use std::sync::Wait;
@@ -29,7 +29,7 @@ pub fn leaves_changed<W: Threads + Wait + Sync>(
         transcript: Some(&text),
         ..*scene
     };
-    leaves(rt, alloc, &changed, facts)
+    outputs_match(rt, alloc, &changed, facts)
 }
 
 /// Returns the replacement of the first row that has a fact which is not true of the changed transcript.

@@ -253,7 +253,7 @@ const HELPS: &[(&str, &str, &str)] = &[
 ];
 
 #[test]
-fn help_is_told(rt: HostRuntime) -> Result<(), Fail> {
+fn help_is_printed(rt: HostRuntime) -> Result<(), Fail> {
     assert_eq!(rt; unhelped(rt.alloc(), HELPS)?, None);
     Ok(())
 }

@@ -83,7 +83,7 @@ fn make_args<'a>(names: [&'a str; 3]) -> MakeArgs<'a> {
 }
 
 // Returns the index of the first row of output names whose repeated name is not the expected one.
-fn other_made_repeat(table: &[([&str; 3], Option<&str>)]) -> Option<usize> {
+fn other_generated_repeat(table: &[([&str; 3], Option<&str>)]) -> Option<usize> {
     for (i, &(names, wanted)) in table.iter().enumerate() {
         if make_args(names).given_twice() != wanted {
             return Some(i);
@@ -104,7 +104,7 @@ const MADE_NAMES: &[([&str; 3], Option<&str>)] = &[
 
 #[test]
 fn a_name_to_store_is_given_twice(rt: HostRuntime) {
-    assert_eq!(rt; other_made_repeat(MADE_NAMES), None);
+    assert_eq!(rt; other_generated_repeat(MADE_NAMES), None);
 }
 
 // Returns the arguments of `verify` with these names, in order.

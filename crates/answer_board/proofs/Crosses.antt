@@ -36,10 +36,10 @@ use Rattle.auction_core.specs.contracts.auction.Auction as Auction
 use Rattle.auction_core.specs.contracts.clock.Clock as Clock
 use Rattle.auction_core.specs.contracts.setup.Setup as Setup
 use Rattle.auction_core.specs.contracts.step_list.StepList as StepList
-use Rattle.auction_core.specs.contracts.past.Past as Past
-use Rattle.auction_core.specs.contracts.clockwork.Clockwork as Clockwork
-use Rattle.auction_core.specs.contracts.course.Course as Course
-use Rattle.auction_core.specs.contracts.notes.Notes as Notes
+use Rattle.auction_core.specs.contracts.test_history.TestHistory as TestHistory
+use Rattle.auction_core.specs.contracts.query_session.QuerySession as QuerySession
+use Rattle.auction_core.specs.contracts.clock_run.ClockRun as ClockRun
+use Rattle.auction_core.specs.contracts.pending_receipts.PendingReceipts as PendingReceipts
 use Rattle.auction_core.specs.contracts.record.Shown as Shown
 use Rattle.auction_core.specs.contracts.posting.Entry as Entry
 
@@ -67,14 +67,14 @@ shown-send = search (map-send, receipt-send, refutation-send, items-send, crosse
 pub steps-send : IsSend StepList.the_row
 steps-send = search (shown-send, crosses, sendable) depth 30
 
-pub past-send : IsSend Past.the_row
-past-send = search (steps-send, crosses, sendable) depth 30
+pub test_history-send : IsSend TestHistory.the_row
+test_history-send = search (steps-send, crosses, sendable) depth 30
 
 pub clock-send : IsSend Clock.the_row
 clock-send = search (crosses, sendable) depth 30
 
-pub course-send : IsSend Course.the_row
-course-send = search (shown-send, past-send, clock-send, crosses, sendable) depth 30
+pub clock_run-send : IsSend ClockRun.the_row
+clock_run-send = search (shown-send, test_history-send, clock-send, crosses, sendable) depth 30
 
 pub book-send : IsSend Book.the_row
 book-send = search (crosses, sendable) depth 30
@@ -109,17 +109,17 @@ places-field = search (crosses, sendable) depth 30
 pub setup-send : IsSend Setup.the_row
 setup-send = search (shared-send, scenario-field, order-field, prices-field, places-field, sendable) depth 40 fits 100000
 
-pub clockwork-send : IsSend Clockwork.the_row
-clockwork-send = search (setup-send, course-send, crosses, sendable) depth 30
+pub query_session-send : IsSend QuerySession.the_row
+query_session-send = search (setup-send, clock_run-send, crosses, sendable) depth 30
 
-pub notes-send : IsSend Notes.the_row
-notes-send = search (receipt-send, crosses, sendable) depth 30
+pub pending_receipts-send : IsSend PendingReceipts.the_row
+pending_receipts-send = search (receipt-send, crosses, sendable) depth 30
 
 pub entry-send : IsSend Entry.the_row
 entry-send = search (crosses, sendable) depth 30
 
 pub auction-send : IsSend Auction.the_row
-auction-send = search (clockwork-send, notes-send, entry-send, crosses, sendable) depth 30
+auction-send = search (query_session-send, pending_receipts-send, entry-send, crosses, sendable) depth 30
 
 pub kept-send : IsSend Kept.the_row
 kept-send = search (auction-send, crosses, sendable) depth 30
@@ -127,7 +127,7 @@ kept-send = search (auction-send, crosses, sendable) depth 30
 pub board-sync : IsSync Board.the_row
 board-sync = search (kept-send, book-send, book-sync, shared_sync, lease_sync, crosses, sendable) depth 30
 
-pub pass-send : IsSend (Pass.the_row Kept.the_row Clockwork.the_row Entry.the_row kept)
+pub pass-send : IsSend (Pass.the_row Kept.the_row QuerySession.the_row Entry.the_row kept)
 pass-send = search (kept-send, seat_send, crosses, sendable) depth 30
 
 -- The captures of a closure.

@@ -12,18 +12,18 @@ use Rattle.cert_types.specs.declared.answer.Answer.TheVariants.{Fit, Refuted, Sp
 use Rattle.cert_types.specs.Certificate.{Certificate}
 use Rattle.auction_core.specs.Auction.{AuctionView}
 use Rattle.auction_core.specs.Replay.{EntryView}
-use Rattle.auction_core.specs.Said.{StandsFor, taken}
+use Rattle.auction_core.specs.Said.{JudgesAnswer, taken}
 use Rattle.auction_core.specs.State.{CoreState, NotedSpent, has_ended}
-use Rattle.auction_core.specs.Take.{accepted, advanced, is_noted, noted_with, turned_away}
+use Rattle.auction_core.specs.Take.{accepted, advanced, is_noted, noted_with, unjudged_reply}
 use Rattle.auction_core.specs.declared.posting.Posting.{Posting}
 use Rattle.auction_core.specs.declared.posting.Reply.{Reply}
 use Rattle.auction_core.specs.declared.posting.Reply.TheVariants.{AlreadySpent, Ended, Noted, Stranger, WrongQuery}
 use Rattle.auction_core.specs.declared.posting.Said.TheVariants.{Good}
 use Rattle.auction_core.specs.declared.record.Shown.TheVariants.{Undecided}
-use Rattle.auction_core.proofs.Looked.{looked}
+use Rattle.auction_core.proofs.JudgedLemmas.{looked}
 use Rattle.auction_core.proofs.TakingLemmas.{taken-told, taken-turned}
 use Rattle.turn_lock.specs.declared.chronicle.PassKnowledge.{PassKnowledge}
-use Rattle.answer_board.specs.Posts.{IsPosted, StandsOn, is_faultless}
+use Rattle.answer_board.specs.Posts.{IsPosted, StaysJudged, is_faultless}
 
 -- A valid answer that is taken.
 accepted-faultless : (sc : Scenario) (book : BookView) (state : CoreState) (w : ℕ) (answer : Answer) → is_faultless (accepted sc book state w answer).0 ≡ true
@@ -53,18 +53,18 @@ taken-faultless : (sc : Scenario) (book : BookView) (state : CoreState) (w numbe
 taken-faultless sc book state w number certified lt =
     let posting : Posting = record { worker = w; number = number; said = Good certified } in
     let known : nat_le (length sc.workers) w ≡ false = below (length sc.workers) w lt in
-    let go : (o : Option Reply) → turned_away sc state w number ≡ o → is_faultless (taken sc book state posting).0 ≡ true = λ o. elim o as (λ o. turned_away sc state w number ≡ o → is_faultless (taken sc book state posting).0 ≡ true) [
+    let go : (o : Option Reply) → unjudged_reply sc state w number ≡ o → is_faultless (taken sc book state posting).0 ≡ true = λ o. elim o as (λ o. unjudged_reply sc state w number ≡ o → is_faultless (taken sc book state posting).0 ≡ true) [
       | None ↦ λ t. subst (λ (out : Reply × CoreState). is_faultless out.0 ≡ true) (taken-told sc book state posting (Good certified) t refl) (accepted-faultless sc book state w certified.answer)
       | Some reply ↦ λ t. subst (λ (out : Reply × CoreState). is_faultless out.0 ≡ true) (taken-turned sc book state posting reply t) (turned-faultless (has_ended state) (number == state.number) (nat_le (length sc.workers) w) state.number reply known t)
     ] in
-    go (turned_away sc state w number) refl
+    go (unjudged_reply sc state w number) refl
   where
     below : (n w : ℕ) → w < n → nat_le n w ≡ false
     below n w lt = grind (arith, nat_tests)
 
-pub posted-faultless : (made : AuctionView) (old new : PassKnowledge EntryView) (w number : ℕ) (worker : Worker) (certified : Certificate) (answer : Answer) (reply : Reply) → StandsOn made old.seen (record { worker = w; number = number; said = Good certified }) answer → slice_get made.scenario.workers w ≡ Some worker → IsPosted made (record { worker = w; number = number; answer = answer }) old new reply → is_faultless reply ≡ true
+pub posted-faultless : (made : AuctionView) (old new : PassKnowledge EntryView) (w number : ℕ) (worker : Worker) (certified : Certificate) (answer : Answer) (reply : Reply) → StaysJudged made old.seen (record { worker = w; number = number; said = Good certified }) answer → slice_get made.scenario.workers w ≡ Some worker → IsPosted made (record { worker = w; number = number; answer = answer }) old new reply → is_faultless reply ≡ true
 posted-faultless made old new w number worker certified answer reply on of posted =
     let posting : Posting = record { worker = w; number = number; said = Good certified } in
-    let stands : StandsFor made.scenario made.book posted.state posting answer = on posted.before posted.state posted.begins posted.replays in
+    let stands : JudgesAnswer made.scenario made.book posted.state posting answer = on posted.before posted.state posted.begins posted.replays in
     let told : reply ≡ (taken made.scenario made.book posted.state posting).0 = posted.told ∙ ap (λ (out : Reply × CoreState). out.0) (sym (looked made.scenario made.book posted.state posting answer stands)) in
     subst (λ r. is_faultless r ≡ true) (sym told) (taken-faultless made.scenario made.book posted.state w number certified (slice_get_within made.scenario.workers w worker of))

@@ -2,4 +2,4 @@ pub mod Crosses
 pub mod Faultless
 pub mod PassLemmas
 pub mod PostLemmas
-pub mod StandLemmas
+pub mod WasCurrentLemmas

@@ -15,9 +15,9 @@ use Rattle.pack_defs.specs.declared.worker.Worker.{Worker}
 use Rattle.cert_types.specs.declared.answer.Answer.{Answer}
 use Rattle.cert_types.specs.declared.task.Task.{Task as Query}
 use Rattle.auction_core.specs.declared.posting.Posting.{Posting}
-use Rattle.auction_core.specs.Said.{StandsFor}
-use Rattle.answer_board.specs.declared.post.Met.{Met}
-use Rattle.answer_board.specs.declared.post.Met.TheVariants.{Told, Asked}
+use Rattle.auction_core.specs.Said.{JudgesAnswer}
+use Rattle.answer_board.specs.declared.post.EarlyPost.{EarlyPost}
+use Rattle.answer_board.specs.declared.post.EarlyPost.TheVariants.{Replied, MustJudge}
 use Rattle.answer_board.specs.declared.look.Look.{Look}
 use Rattle.answer_board.specs.declared.look.Look.TheVariants.{Task, Ended}
 use Rattle.answer_board.specs.Boards.{beginning_of}
@@ -33,18 +33,18 @@ LookIs sc book state (Task task) = (task_of sc book state ≡ Some task) × IsQu
 LookIs sc book state Ended = has_ended state ≡ true
 
 -- Whether the posting changed the auction as the definition says, and the history has the posting.
-pub record IsTaken (old new : AuctionView) (posting : PostingView) (reply : Reply) : Type 0 where
+pub record IsPostingTaken (old new : AuctionView) (posting : PostingView) (reply : Reply) : Type 0 where
   pub told : (reply, new.state) ≡ take old.scenario old.book old.state posting
   pub history : new.history ≡ old.history ++ entry_of posting reply ∷ []
   pub beginning : beginning_of new ≡ beginning_of old
 
 -- Whether nothing changed except the capacity of the history.
-pub record StaysAs (old new : AuctionView) : Type 0 where
+pub record IsUnchangedBoard (old new : AuctionView) : Type 0 where
   pub beginning : beginning_of new ≡ beginning_of old
   pub history : new.history ≡ old.history
 
 -- Whether the history seen leads to a state with this property.
-pub record Sees (raised : AuctionView) (seen : List (ℕ × EntryView)) (Holds : CoreState → Type 0) : Type 0 where
+pub record SeesState (raised : AuctionView) (seen : List (ℕ × EntryView)) (Holds : CoreState → Type 0) : Type 0 where
   pub state : CoreState
   pub replays : left_by raised seen ≡ Some state
   pub holds : Holds state
@@ -73,7 +73,7 @@ is_faultless AlreadySpent = true
 is_faultless Noted = true
 
 -- Whether the query was current in some state that the history seen went through.
-pub record HasStood (raised : AuctionView) (seen : List (ℕ × EntryView)) (task : Query) : Type 0 where
+pub record WasCurrent (raised : AuctionView) (seen : List (ℕ × EntryView)) (task : Query) : Type 0 where
   pub before : List (ℕ × EntryView)
   pub begins : StartsWith seen before
   pub state : CoreState
@@ -82,12 +82,12 @@ pub record HasStood (raised : AuctionView) (seen : List (ℕ × EntryView)) (tas
 
 -- Whether the verdict on this answer stays correct however the history seen continues, unless the posting is turned
 -- away.
-abbrev pub StandsOn : AuctionView → List (ℕ × EntryView) → Posting → Answer → Type 0
-StandsOn raised seen posting answer =
-    (log : List (ℕ × EntryView)) (state : CoreState) → StartsWith log seen → left_by raised log ≡ Some state → StandsFor raised.scenario raised.book state posting answer
+abbrev pub StaysJudged : AuctionView → List (ℕ × EntryView) → Posting → Answer → Type 0
+StaysJudged raised seen posting answer =
+    (log : List (ℕ × EntryView)) (state : CoreState) → StartsWith log seen → left_by raised log ≡ Some state → JudgesAnswer raised.scenario raised.book state posting answer
 
 -- Whether this is the current query and the worker with this number.
-pub record IsAsked (now : AuctionView) (w n : ℕ) (task : Query) (of : Worker) : Type 0 where
+pub record MustBeJudged (now : AuctionView) (w n : ℕ) (task : Query) (of : Worker) : Type 0 where
   pub stands : task_of now.scenario now.book now.state ≡ Some task
   pub query : IsQuery now.book task
   pub worker : slice_get now.scenario.workers w ≡ Some of
@@ -95,21 +95,21 @@ pub record IsAsked (now : AuctionView) (w n : ℕ) (task : Query) (of : Worker) 
 
 -- Whether this is the result of a posting before the check: it was posted whatever its answer, or nothing changed and
 -- the query is current.
-abbrev pub HasMet : AuctionView → AuctionView → ℕ → ℕ → Met → Type 0
-HasMet old new w number (Told reply) = (answer : Answer) → IsTaken old new (record { worker = w; number = number; answer = answer }) reply
-HasMet old new w number (Asked task worker) = StaysAs old new × IsAsked old w number task worker
+abbrev pub IsEarlyPost : AuctionView → AuctionView → ℕ → ℕ → EarlyPost → Type 0
+IsEarlyPost old new w number (Replied reply) = (answer : Answer) → IsPostingTaken old new (record { worker = w; number = number; answer = answer }) reply
+IsEarlyPost old new w number (MustJudge task worker) = IsUnchangedBoard old new × MustBeJudged old w number task worker
 
 -- Whether the first turn of a posting on a board posted nothing, and the answer is to be checked for this query and
 -- worker.
-pub record IsAskedOn (raised : AuctionView) (w n : ℕ) (old new : PassKnowledge EntryView) (task : Query) (of : Worker) : Type 0 where
+pub record MustBeJudgedOn (raised : AuctionView) (w n : ℕ) (old new : PassKnowledge EntryView) (task : Query) (of : Worker) : Type 0 where
   pub mine : new.mine ≡ old.mine
-  pub stood : HasStood raised new.seen task
+  pub was_current : WasCurrent raised new.seen task
   pub query : IsQuery raised.book task
   pub worker : slice_get raised.scenario.workers w ≡ Some of
   pub number : n ≡ task.number
 
 -- Whether the first turn of a posting on a board had this result: the posting was turned away with a reply, or its
 -- answer is to be checked.
-abbrev pub HasMetOn : AuctionView → ℕ → ℕ → PassKnowledge EntryView → PassKnowledge EntryView → Met → Type 0
-HasMetOn raised w number old new (Told reply) = (answer : Answer) → IsPosted raised (record { worker = w; number = number; answer = answer }) old new reply
-HasMetOn raised w number old new (Asked task worker) = IsAskedOn raised w number old new task worker
+abbrev pub IsEarlyPostOn : AuctionView → ℕ → ℕ → PassKnowledge EntryView → PassKnowledge EntryView → EarlyPost → Type 0
+IsEarlyPostOn raised w number old new (Replied reply) = (answer : Answer) → IsPosted raised (record { worker = w; number = number; answer = answer }) old new reply
+IsEarlyPostOn raised w number old new (MustJudge task worker) = MustBeJudgedOn raised w number old new task worker

@@ -2,7 +2,7 @@
 
 ghost use Rattle.std.specs.Arc.{arc_value};
 ghost use Rattle.std.specs.Prelude.{◌≡◌};
-ghost use Rattle.turn_lock.specs.Passes.{made_over};
+ghost use Rattle.turn_lock.specs.Passes.{value_under};
 
 use crate::kept::Kept;
 use pack_defs::book::Book;
@@ -22,7 +22,7 @@ pub struct Board {
     // A further owner of the auction's book.
     pub(crate) book: Arc<Book>,
     pub(crate) workers: Vec<Worker>,
-    ghost book_is: { arc_value book ≡ (made_over lock).auction.book },
-    ghost workers_are: { workers.items ≡ (made_over lock).auction.scenario.workers },
-    ghost order_is: { (made_over lock).auction.state.order ≡ (made_over lock).auction.opened.order },
+    ghost book_is: { arc_value book ≡ (value_under lock).auction.book },
+    ghost workers_are: { workers.items ≡ (value_under lock).auction.scenario.workers },
+    ghost order_is: { (value_under lock).auction.state.order ≡ (value_under lock).auction.opened.order },
 }

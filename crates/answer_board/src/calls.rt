@@ -1,15 +1,15 @@
 //! Opens a board, looks at it and closes it.
 
 ghost use Rattle.std.specs.Prelude.{◌≡◌, ◌≤◌, IfErr, IfOk, length, map};
-ghost use Rattle.turn_lock.specs.Passes.{IsPassIdle, known_of, mine_of, seen_of, standing};
-ghost use Rattle.turn_lock.specs.Turns.{AllOf, IsWhole, each_new};
-ghost use Rattle.answer_board.specs.Boards.{AreAllOn, GoesOnIdle, IsIdleOn, beginning_of, raised};
+ghost use Rattle.turn_lock.specs.Passes.{IsPassIdle, known_of, mine_of, seen_of, pass_identity};
+ghost use Rattle.turn_lock.specs.Turns.{AllOf, IsClosedHistory, each_new};
+ghost use Rattle.answer_board.specs.Boards.{AreAllOn, StaysIdle, IsIdleOn, beginning_of, raised};
 ghost use Rattle.answer_board.specs.Entries.{numbered};
-ghost use Rattle.answer_board.specs.Posts.{LookIs, Sees};
+ghost use Rattle.answer_board.specs.Posts.{LookIs, SeesState};
 
 use crate::board::{Board, Pass};
 use crate::kept::Kept;
-use crate::look::{Look, what_stands};
+use crate::look::{Look, current_look};
 use auction_core::auction::Auction;
 use pack_defs::worker::Worker;
 use std::alloc::{AllocError as NoMemory, Global};
@@ -29,7 +29,7 @@ impl Board {
     ) -> Result<(Board, Vec<Pass>), (NoMemory, Auction)>
         requires some { 1 ≤ passes }
         ensures raised { IfOk result (λ r. raised r.0 ≡ auction) }
-        ensures all { IfOk result (λ r. AreAllOn r.0 (map standing r.1.items)) }
+        ensures all { IfOk result (λ r. AreAllOn r.0 (map pass_identity r.1.items)) }
         ensures idle { IfOk result (λ r. AllOf IsPassIdle r.1.items) }
         ensures new { IfOk result (λ r. map known_of r.1.items ≡ each_new (numbered auction.history) passes) }
         ensures back { IfErr result (λ e. e.1 ≡ auction) }
@@ -65,14 +65,14 @@ impl Board {
     /// Returns the current query, or that the auction has ended. Waits for its turn. Fails only if memory runs out.
     pub fn look<R: Wait>(&self, rt: &R, alloc: Global, pass: &mut Pass) -> Result<Look, NoMemory>
         requires idle { IsIdleOn self.now pass.old }
-        ensures idle { GoesOnIdle self.now pass.old pass.new }
+        ensures idle { StaysIdle self.now pass.old pass.new }
         ensures mine { mine_of pass.new ≡ mine_of pass.old }
-        ensures look { IfOk result (λ look. Sees (raised self.now) (seen_of pass.new) (λ state. LookIs (raised self.now).scenario (raised self.now).book state look)) }
+        ensures look { IfOk result (λ look. SeesState (raised self.now) (seen_of pass.new) (λ state. LookIs (raised self.now).scenario (raised self.now).book state look)) }
     {
         let turn = self.lock.enter(rt, pass);
         // Its contract says which state the history replays to.
         turn.value.auction.keeps_the_rule();
-        let looked = what_stands(alloc, &turn.value.auction);
+        let looked = current_look(alloc, &turn.value.auction);
         self.lock.leave(pass, turn);
         looked
     }
@@ -81,9 +81,9 @@ impl Board {
     /// for its turn.
     pub fn current<R: Wait>(&self, rt: &R, pass: &mut Pass) -> u64
         requires idle { IsIdleOn self.now pass.old }
-        ensures idle { GoesOnIdle self.now pass.old pass.new }
+        ensures idle { StaysIdle self.now pass.old pass.new }
         ensures mine { mine_of pass.new ≡ mine_of pass.old }
-        ensures number { Sees (raised self.now) (seen_of pass.new) (λ state. result ≡ state.number) }
+        ensures number { SeesState (raised self.now) (seen_of pass.new) (λ state. result ≡ state.number) }
     {
         let turn = self.lock.enter(rt, pass);
         // Its contract says which state the history replays to.
@@ -100,11 +100,11 @@ impl Board {
     /// Its history begins with what each pass has seen. It consists of the history at the start and every pass's own
     /// entries, each once.
     pub fn close(self, passes: Vec<Pass>) -> Auction
-        requires all { AreAllOn self (map standing passes.items) }
+        requires all { AreAllOn self (map pass_identity passes.items) }
         requires idle { AllOf IsPassIdle passes.items }
         ensures beginning { beginning_of result ≡ beginning_of (raised self) }
         ensures order { result.state.order ≡ (raised self).state.order }
-        ensures history { IsWhole (length passes.items) (numbered (raised self).history) (numbered result.history) (map known_of passes.items) }
+        ensures history { IsClosedHistory (length passes.items) (numbered (raised self).history) (numbered result.history) (map known_of passes.items) }
     {
         let Board {
             lock,

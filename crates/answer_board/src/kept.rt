@@ -4,8 +4,8 @@ ghost use Rattle.std.specs.Prelude.{true};
 ghost use Rattle.answer_board.specs.Entries.{numbered};
 
 use auction_core::auction::Auction;
-use auction_core::clockwork::Clockwork;
 use auction_core::posting::Entry;
+use auction_core::query_session::QuerySession;
 use turn_lock::chronicle::Chronicle;
 
 /// An auction on a board. Its history is the list of its postings, each with the number of its worker.
@@ -15,7 +15,7 @@ pub struct Kept {
 }
 
 impl Chronicle for Kept {
-    type Base = Clockwork;
+    type Base = QuerySession;
 
     type Entry = Entry;
 

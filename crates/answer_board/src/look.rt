@@ -17,7 +17,7 @@ pub enum Look {
 }
 
 /// Returns the current query, or that the auction has ended. Fails only if memory runs out.
-pub(crate) fn what_stands(alloc: Global, auction: &Auction) -> Result<Look, NoMemory>
+pub(crate) fn current_look(alloc: Global, auction: &Auction) -> Result<Look, NoMemory>
     ensures { IfOk result (LookIs auction.now.scenario auction.now.book auction.now.state) }
 {
     match auction.task(alloc) {

@@ -3,11 +3,11 @@
 ghost use Rattle.std.specs.Prelude.{◌≡◌, IfErr, IfOk, Some, slice_get, true};
 ghost use Rattle.cert_types.specs.Query.{IsQuery};
 ghost use Rattle.turn_lock.specs.Passes.{IsLegal, known_of, mine_of, pass_number, seen_of};
-ghost use Rattle.answer_board.specs.Boards.{GoesOnIdle, IsIdleOn, raised};
-ghost use Rattle.answer_board.specs.Posts.{HasMetOn, HasStood, IsPosted, StandsOn, is_faultless};
+ghost use Rattle.answer_board.specs.Boards.{StaysIdle, IsIdleOn, raised};
+ghost use Rattle.answer_board.specs.Posts.{IsEarlyPostOn, WasCurrent, IsPosted, StaysJudged, is_faultless};
 
 use crate::board::{Board, Pass};
-use crate::post::{Met, Unposted, meets, tells};
+use crate::post::{EarlyPost, Unposted, post_judged, post_unjudged};
 use auction_core::posting::{Reply, Said};
 use cert_types::answer::{Answer, CertifyWhy, Place};
 use cert_types::certified::Certified;
@@ -36,15 +36,15 @@ impl Board {
         answer: Answer,
     ) -> Result<Reply, Unposted>
         requires idle { IsIdleOn self.now pass.old }
-        ensures idle { GoesOnIdle self.now pass.old pass.new }
+        ensures idle { StaysIdle self.now pass.old pass.new }
         ensures posted { IfOk result (IsPosted (raised self.now) (record { worker = pass_number pass.old; number = number; answer = answer }) (known_of pass.old) (known_of pass.new)) }
         ensures back { IfErr result (λ unposted. unposted.answer ≡ answer) }
         ensures mine { IfErr result (λ unposted. mine_of pass.new ≡ mine_of pass.old) }
     {
-        match self.meets(rt, alloc, pass, number) {
-            Ok(Met::Told(reply)) => Ok(reply),
-            Ok(Met::Asked { task, worker }) => {
-                self.judges(rt, alloc, pass, &task, &worker, answer)
+        match self.post_unjudged(rt, alloc, pass, number) {
+            Ok(EarlyPost::Replied(reply)) => Ok(reply),
+            Ok(EarlyPost::MustJudge { task, worker }) => {
+                self.judge_and_post(rt, alloc, pass, &task, &worker, answer)
             }
             Err(_) => Err(Unposted { answer }),
         }
@@ -68,16 +68,16 @@ impl Board {
         requires idle { IsIdleOn self.now pass.old }
         requires book { certified.book ≡ (raised self.now).book }
         requires worker { slice_get (raised self.now).scenario.workers (pass_number pass.old) ≡ Some certified.worker }
-        requires stood { HasStood (raised self.now) (seen_of pass.old) certified.task }
+        requires was_current { WasCurrent (raised self.now) (seen_of pass.old) certified.task }
         requires number { number ≡ certified.task.number }
-        ensures idle { GoesOnIdle self.now pass.old pass.new }
+        ensures idle { StaysIdle self.now pass.old pass.new }
         ensures posted { IfOk result (IsPosted (raised self.now) (record { worker = pass_number pass.old; number = number; answer = certified.answer }) (known_of pass.old) (known_of pass.new)) }
         ensures faultless { IfOk result (λ reply. is_faultless reply ≡ true) }
         ensures back { IfErr result (λ unposted. unposted.answer ≡ certified.answer) }
         ensures mine { IfErr result (λ unposted. mine_of pass.new ≡ mine_of pass.old) }
     {
         let answer = Snapshot::of(certified.answer());
-        match self.tells(rt, pass, number, Said::Good(certified), &answer) {
+        match self.post_judged(rt, pass, number, Said::Good(certified), &answer) {
             Ok(reply) => Ok(reply),
             Err(Said::Good(certified)) => Err(Unposted {
                 answer: certified.into_answer(),
@@ -96,21 +96,21 @@ impl Board {
         answer: Answer,
     ) -> Result<Reply, Unposted>
         requires idle { IsIdleOn self.now pass.old }
-        requires stands { StandsOn (raised self.now) (seen_of pass.old) (record { worker = pass_number pass.old; number = number; said = Said.Bad place }) answer }
-        ensures idle { GoesOnIdle self.now pass.old pass.new }
+        requires stands { StaysJudged (raised self.now) (seen_of pass.old) (record { worker = pass_number pass.old; number = number; said = Said.Bad place }) answer }
+        ensures idle { StaysIdle self.now pass.old pass.new }
         ensures posted { IfOk result (IsPosted (raised self.now) (record { worker = pass_number pass.old; number = number; answer = answer }) (known_of pass.old) (known_of pass.new)) }
         ensures back { IfErr result (λ unposted. unposted.answer ≡ answer) }
         ensures mine { IfErr result (λ unposted. mine_of pass.new ≡ mine_of pass.old) }
     {
         let kept = Snapshot::of(&answer);
-        match self.tells(rt, pass, number, Said::Bad(place), &kept) {
+        match self.post_judged(rt, pass, number, Said::Bad(place), &kept) {
             Ok(reply) => Ok(reply),
             Err(_) => Err(Unposted { answer }),
         }
     }
 
     // Checks an answer, and posts it.
-    fn judges<R: Wait>(
+    fn judge_and_post<R: Wait>(
         &self,
         rt: &R,
         alloc: Global,
@@ -123,8 +123,8 @@ impl Board {
         requires legal { IsLegal pass.old }
         requires query { IsQuery (raised self.now).book task.now }
         requires worker { slice_get (raised self.now).scenario.workers (pass_number pass.old) ≡ Some worker.now }
-        requires stood { HasStood (raised self.now) (seen_of pass.old) task.now }
-        ensures idle { GoesOnIdle self.now pass.old pass.new }
+        requires was_current { WasCurrent (raised self.now) (seen_of pass.old) task.now }
+        ensures idle { StaysIdle self.now pass.old pass.new }
         ensures posted { IfOk result (IsPosted (raised self.now) (record { worker = pass_number pass.old; number = task.now.number; answer = answer }) (known_of pass.old) (known_of pass.new)) }
         ensures back { IfErr result (λ unposted. unposted.answer ≡ answer) }
         ensures mine { IfErr result (λ unposted. mine_of pass.new ≡ mine_of pass.old) }
@@ -143,32 +143,32 @@ impl Board {
     }
 
     // The first turn of a posting whose answer is not checked yet.
-    fn meets<R: Wait>(
+    fn post_unjudged<R: Wait>(
         &self,
         rt: &R,
         alloc: Global,
         pass: &mut Pass,
         number: u64,
-    ) -> Result<Met, NoMemory>
+    ) -> Result<EarlyPost, NoMemory>
         requires idle { IsIdleOn self.now pass.old }
-        ensures idle { GoesOnIdle self.now pass.old pass.new }
-        ensures met { IfOk result (HasMetOn (raised self.now) (pass_number pass.old) number (known_of pass.old) (known_of pass.new)) }
+        ensures idle { StaysIdle self.now pass.old pass.new }
+        ensures met { IfOk result (IsEarlyPostOn (raised self.now) (pass_number pass.old) number (known_of pass.old) (known_of pass.new)) }
         ensures mine { IfErr result (λ fault. mine_of pass.new ≡ mine_of pass.old) }
     {
         let worker = pass.number();
         let mut turn = self.lock.enter(rt, pass);
         // Its contract says which state the history replays to.
         turn.value.auction.keeps_the_rule();
-        match meets(alloc, &mut turn.value.auction, worker, number) {
-            Ok(Met::Told(reply)) => {
+        match post_unjudged(alloc, &mut turn.value.auction, worker, number) {
+            Ok(EarlyPost::Replied(reply)) => {
                 turn.value.auction.keeps_the_rule();
                 self.lock.commit(pass, &mut turn);
                 self.lock.leave(pass, turn);
-                Ok(Met::Told(reply))
+                Ok(EarlyPost::Replied(reply))
             }
-            Ok(Met::Asked { task, worker }) => {
+            Ok(EarlyPost::MustJudge { task, worker }) => {
                 self.lock.leave(pass, turn);
-                Ok(Met::Asked { task, worker })
+                Ok(EarlyPost::MustJudge { task, worker })
             }
             Err(fault) => {
                 self.lock.leave(pass, turn);
@@ -178,7 +178,7 @@ impl Board {
     }
 
     // Posts the verdict on an answer, within a turn.
-    fn tells<R: Wait>(
+    fn post_judged<R: Wait>(
         &self,
         rt: &R,
         pass: &mut Pass,
@@ -187,8 +187,8 @@ impl Board {
         answer: &Snapshot<Answer>,
     ) -> Result<Reply, Said>
         requires idle { IsIdleOn self.now pass.old }
-        requires stands { StandsOn (raised self.now) (seen_of pass.old) (record { worker = pass_number pass.old; number = number; said = said }) answer.now.value }
-        ensures idle { GoesOnIdle self.now pass.old pass.new }
+        requires stands { StaysJudged (raised self.now) (seen_of pass.old) (record { worker = pass_number pass.old; number = number; said = said }) answer.now.value }
+        ensures idle { StaysIdle self.now pass.old pass.new }
         ensures posted { IfOk result (IsPosted (raised self.now) (record { worker = pass_number pass.old; number = number; answer = answer.now.value }) (known_of pass.old) (known_of pass.new)) }
         ensures back { IfErr result (λ back. back ≡ said) }
         ensures mine { IfErr result (λ back. mine_of pass.new ≡ mine_of pass.old) }
@@ -199,7 +199,7 @@ impl Board {
         let mut turn = self.lock.enter(rt, pass);
         // Its contract says which state the history replays to.
         turn.value.auction.keeps_the_rule();
-        match tells(&mut turn.value.auction, worker, number, said) {
+        match post_judged(&mut turn.value.auction, worker, number, said) {
             Ok(reply) => {
                 turn.value.auction.keeps_the_rule();
                 self.lock.commit(pass, &mut turn);

@@ -32,7 +32,7 @@ stands-unchanged s c last changes a b e =
     let known : channel_of s (overlaid last changes) ≡ channel_of s last = over-channel s last changes b ∙ ap (λ o. option_or o (channel_of s last)) e in
     sym (stands-exactly s c last a) ∙ ap (λ o. option_eq nat_eq o (Some c)) (sym known) ∙ stands-exactly s c (overlaid last changes) (overlaid-ascending last changes a)
 
--- the rules for `stands`
+-- the rules for `is_on_channel`
 pub ruleset standing = (stands-changed, stands-unchanged)
 
 -- ---- the pairs of a changed station

@@ -6,7 +6,7 @@ use Rattle.pack_defs.specs.Lists.{has_entry, is_in}
 use Rattle.pack_defs.proofs.Members.{is_in-gives}
 use Rattle.pack_defs.proofs.Words.{has_entry-from_Contains}
 use Rattle.assign_check.specs.Fault.{is_violated, first_fault, IsCleanOn}
-use Rattle.assign_check.specs.Violations.{is_of, violations, violations_of}
+use Rattle.assign_check.specs.Assignment.{is_of, violations, violations_of}
 use Rattle.assign_check.proofs.Counts.{counts-any}
 use Rattle.assign_check.proofs.Faultless.{faultless, not-joined, on-stations}
 

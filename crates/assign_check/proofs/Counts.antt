@@ -11,7 +11,7 @@ use Rattle.pack_defs.specs.Lists.{has_entry, has_station, same_entry}
 use Rattle.pack_defs.proofs.MapLemmas.{put-ascending}
 use Rattle.pack_defs.proofs.Words.{eq_swap}
 use Rattle.assign_check.specs.Fault.{is_violated}
-use Rattle.assign_check.specs.Violations.{IsCounted, is_of, violations, violations_of}
+use Rattle.assign_check.specs.Assignment.{IsCounted, is_of, violations, violations_of}
 use Rattle.assign_check.proofs.Moves.{has_station-more, station-fresh}
 use Rattle.assign_check.proofs.Violations.{from_own, is_violated_from, own-channel, station-has}
 

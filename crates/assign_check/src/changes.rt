@@ -34,7 +34,7 @@ fn violates_from(book: &Book, last: &ChannelMap, changes: &ChannelMap, own: (u32
     ensures { result ≡ list_any (is_violated (overlaid last.now changes.now)) (filter (λ p. p.f == own.0) book.now.pairs) }
 {
     for p in book.pairs_from(own.0) {
-        if p.a == own.1 && stands(last, changes, p.g, p.b) {
+        if p.a == own.1 && is_on_channel(last, changes, p.g, p.b) {
             return true;
         }
     }
@@ -49,7 +49,7 @@ fn violates_to(book: &Book, last: &ChannelMap, changes: &ChannelMap, own: (u32, 
     ensures { result ≡ list_any (is_violated (overlaid last.now changes.now)) (filter (λ p. p.g == own.0) book.now.pairs) }
 {
     for p in book.pairs_to(own.0) {
-        if p.b == own.1 && stands(last, changes, p.f, p.a) {
+        if p.b == own.1 && is_on_channel(last, changes, p.f, p.a) {
             return true;
         }
     }
@@ -58,7 +58,7 @@ fn violates_to(book: &Book, last: &ChannelMap, changes: &ChannelMap, own: (u32, 
 
 // Whether the map has the station on this channel.
 #[tactic(auto, using(crate::proofs::Changed::standing))]
-fn stands(last: &ChannelMap, changes: &ChannelMap, station: u32, c: u8) -> bool
+fn is_on_channel(last: &ChannelMap, changes: &ChannelMap, station: u32, c: u8) -> bool
     requires last { IsAscending last.now }
     requires changes { IsAscending changes.now }
     ensures { result ≡ has_entry (overlaid last.now changes.now) (station, c) }

@@ -15,21 +15,21 @@ use Rattle.auction_core.specs.declared.record.Ending.TheVariants.{Done, StartRef
 use Rattle.auction_core.specs.declared.record.Record.{Record}
 use Rattle.auction_core.specs.Backed.{undecided_of}
 use Rattle.commands.specs.declared.inputs.Inputs.{Inputs}
-use Rattle.commands.specs.declared.input_file.Stop.TheVariants.{CannotRead, NoMemory, Refused}
+use Rattle.commands.specs.declared.inputs.input_file.Stop.TheVariants.{CannotRead, NoMemory, Refused}
 use Rattle.command_words.specs.declared.run_words.Input.{Input}
 use Rattle.commands.specs.Batch.{BatchStop, Unread, Twice, HeldBatch, batch_of, batch_status, batch_texts, ended_status, ended_text, ends_at_start, own_status, own_texts, status_lines, texts_under, with_text, names_in_words}
 use Rattle.command_words.specs.Words.{inputs_with}
 use Rattle.commands.specs.BatchEnds.{AreRecordsOf, BatchEnds, CountsStop, EachOf, ExplainsStop, IsBatchHeld, IsBatchStopped, IsUnderList, StopsAsHeld, StopsUnder}
-use Rattle.commands.specs.BatchEnds.BatchEnds.{BatchStopped, BatchStarved, BatchRan}
+use Rattle.commands.specs.BatchEnds.BatchEnds.{BatchStopped, BatchOutOfMemory, BatchRan}
 use Rattle.auction_cmd.specs.BatchPromises.{BatchPromises, IsBatchCut, IsBatchPart, IsBatchRun, IsBatchUnstored, IsRefusing, IsRunOf, refused_line}
-use Rattle.commands.specs.Delivery.{AllOthersStand, AreStored, Delivers, IsPrinted, NamedText}
+use Rattle.commands.specs.Delivery.{AllOthersUnchanged, AreStored, Delivers, IsPrinted, NamedText}
 use Rattle.commands.specs.Delivery.IsPrinted.{Written, CutShort}
 use Rattle.commands.specs.Inputs.{CountsFault, inputs_of}
-use Rattle.commands.specs.Outside.{Outside, IsSaid}
+use Rattle.commands.specs.Outside.{Outside, IsLinePrinted}
 use Rattle.commands.specs.Records.{IsRecordBy, done_status, result_of, run_order}
 use Rattle.command_words.specs.Words.{name_of}
-use Rattle.commands.specs.Says.{memory_line, unread_line, unwritten_line}
-use Rattle.commands.specs.VerifyPromises.{IsOr}
+use Rattle.commands.specs.Messages.{memory_line, unread_line, unwritten_line}
+use Rattle.commands.specs.VerifyPromises.{IsStatusOr}
 use Rattle.command_words.specs.Words.{BatchNames, InputNames}
 use Rattle.auction_cmd.proofs.BatchReadings.{other-results, own-results, read-batch}
 use Rattle.commands.proofs.DeliveryLemmas.{AreApart, Ended, IsPart, ended-of, for-told, others-up-to}
@@ -129,12 +129,12 @@ module _ (names : BatchNames) (before after : Outside) (status : ℕ) (batch : L
   -- how far a batch came: its reading stopped, memory ran out before anything was stored, or all was carried out
   data Came : Type 0 where
     Stopped : IsBatchStopped names before after status → batch ≡ [] → Came
-    Starved : status ≡ 8 → IsSaid before after memory_line → after.files ≡ before.files → batch ≡ [] → Came
+    EndedOutOfMemory : status ≡ 8 → IsLinePrinted before after memory_line → after.files ≡ before.files → batch ≡ [] → Came
     Reached : IsReached → Came
 
   came : BatchEnds names before after status batch → Came
   came (BatchStopped s none) = Stopped s none
-  came (BatchStarved s none) = Starved s.status_is s.line s.files none
+  came (BatchOutOfMemory s none) = EndedOutOfMemory s.status_is s.line s.files none
   came (BatchRan held are of d) = Reached (record {
     held = held;
     accepted = are;
@@ -157,13 +157,13 @@ module _ (names : BatchNames) (before after : Outside) (status : ℕ) (batch : L
 
   batch-statuses : Came → IsTrue (is_in (0 ∷ 1 ∷ 3 ∷ 4 ∷ 5 ∷ 8 ∷ 11 ∷ []) status)
   batch-statuses (Stopped s none) = within (3 ∷ 5 ∷ 8 ∷ []) (0 ∷ 1 ∷ 3 ∷ 4 ∷ 5 ∷ 8 ∷ 11 ∷ []) status refl (stopped-statuses s)
-  batch-statuses (Starved eight said same none) = one-of (0 ∷ 1 ∷ 3 ∷ 4 ∷ 5 ∷ 8 ∷ 11 ∷ []) status 8 eight refl
+  batch-statuses (EndedOutOfMemory eight said same none) = one-of (0 ∷ 1 ∷ 3 ∷ 4 ∷ 5 ∷ 8 ∷ 11 ∷ []) status 8 eight refl
   batch-statuses (Reached r) = within (0 ∷ 1 ∷ 4 ∷ 8 ∷ 11 ∷ []) (0 ∷ 1 ∷ 3 ∷ 4 ∷ 5 ∷ 8 ∷ 11 ∷ []) status refl (reached-statuses r)
 
   -- at these statuses the auctions were carried out
   reached-at : Came → IsTrue (is_in (0 ∷ 1 ∷ 4 ∷ 11 ∷ []) status) → IsReached
   reached-at (Stopped s none) h = absurd (apart-lists (0 ∷ 1 ∷ 4 ∷ 11 ∷ []) (3 ∷ 5 ∷ 8 ∷ []) status refl h (stopped-statuses s))
-  reached-at (Starved eight said same none) h = absurd (off (0 ∷ 1 ∷ 4 ∷ 11 ∷ []) status 8 h eight refl)
+  reached-at (EndedOutOfMemory eight said same none) h = absurd (off (0 ∷ 1 ∷ 4 ∷ 11 ∷ []) status 8 h eight refl)
   reached-at (Reached r) h = r
 
   never : (n : ℕ) → status ≡ batch_status batch → status ≡ n → is_in (0 ∷ 1 ∷ 11 ∷ []) n ≡ false → ⊥
@@ -187,50 +187,50 @@ module _ (names : BatchNames) (before after : Outside) (status : ℕ) (batch : L
 
   -- in a modelled folder the texts have different names
   apart-texts : (r : IsReached) (files : List StoredFile) → before.files ≡ Some files → AreApart (batch_texts r.held batch)
-  apart-texts r files told =
-      let read = read-batch files names r.held (r.accepted files told) in
+  apart-texts r files modelled =
+      let read = read-batch files names r.held (r.accepted files modelled) in
       own-results (names_in_words names) r.held.lines (own_texts r.held.inputs batch) read.once
 
   batch-each : (files : List StoredFile) → Came → before.files ≡ Some files → IsTrue (is_in (0 ∷ 1 ∷ 11 ∷ []) status) →
       (run : IsBatchRun names before batch)
       × MatchOption after.files ⊥ (λ new. AreStored files new (batch_texts run.held batch) × EachOf (IsRunOf files new names) run.held.lines run.held.inputs batch)
-  batch-each files way told h = go r.ended
+  batch-each files way modelled h = go r.ended
     where
       r : IsReached
       r = reached-at way (within (0 ∷ 1 ∷ 11 ∷ []) (0 ∷ 1 ∷ 4 ∷ 11 ∷ []) status refl h)
 
       each : (new : List StoredFile) → AreStored files new (batch_texts r.held batch) → AreStored files new (batch_texts r.held batch) × EachOf (IsRunOf files new names) r.held.lines r.held.inputs batch
       each new st =
-          let read = read-batch files names r.held (r.accepted files told) in
+          let read = read-batch files names r.held (r.accepted files modelled) in
           (st, each-run files new names r.held.lines r.held.inputs batch r.auctions read.own st.hold)
 
       go : Ended (batch_texts r.held batch) (status_lines r.held.lines batch) (batch_status batch) before after status →
           (run : IsBatchRun names before batch)
           × MatchOption after.files ⊥ (λ new. AreStored files new (batch_texts run.held batch) × EachOf (IsRunOf files new names) run.held.lines run.held.inputs batch)
-      go (Both is all writes) = (run-of-reached r, for-told after.files (λ new. AreStored files new (batch_texts r.held batch)) (λ new. AreStored files new (batch_texts r.held batch) × EachOf (IsRunOf files new names) r.held.lines r.held.inputs batch) each (all files told (apart-texts r files told)))
+      go (Both is all writes) = (run-of-reached r, for-told after.files (λ new. AreStored files new (batch_texts r.held batch)) (λ new. AreStored files new (batch_texts r.held batch) × EachOf (IsRunOf files new names) r.held.lines r.held.inputs batch) each (all files modelled (apart-texts r files modelled)))
       go (NotSaid four all rises less said) = absurd (off (0 ∷ 1 ∷ 11 ∷ []) status 4 h four refl)
       go (NotStored x four part rises unsteady said) = absurd (off (0 ∷ 1 ∷ 11 ∷ []) status 4 h four refl)
       go (OutOfRoom x eight part said) = absurd (off (0 ∷ 1 ∷ 11 ∷ []) status 8 h eight refl)
 
   abbrev part-of : (files : List StoredFile) (r : IsReached) (x : NamedText) → IsPart files (batch_texts r.held batch) x after → IsBatchPart files names before after batch
-  part-of files r x p = record { run = run-of-reached r; new = p.new; now_told = p.now_told; part = p.part }
+  part-of files r x p = record { run = run-of-reached r; new = p.new; now_modelled = p.now_modelled; part = p.part }
 
   batch-unstored : (files : List StoredFile) → Came → before.files ≡ Some files → status ≡ 4 → IsBatchUnstored files names before after batch ⊎ IsBatchCut files names before after batch
-  batch-unstored files way told four = go r.ended
+  batch-unstored files way modelled four = go r.ended
     where
       r : IsReached
       r = reached-at way (one-of (0 ∷ 1 ∷ 4 ∷ 11 ∷ []) status 4 four refl)
 
       go : Ended (batch_texts r.held batch) (status_lines r.held.lines batch) (batch_status batch) before after status → IsBatchUnstored files names before after batch ⊎ IsBatchCut files names before after batch
       go (Both is all writes) = absurd (never 4 is four refl)
-      go (NotSaid at all rises less said) = inr (record { run = run-of-reached r; stored = all files told (apart-texts r files told); failed = rises; unsure = less; lines = said })
+      go (NotSaid at all rises less said) = inr (record { run = run-of-reached r; stored = all files modelled (apart-texts r files modelled); failed = rises; unsure = less; lines = said })
       go (NotStored x at part rises unsteady said) =
-          let p : IsPart files (batch_texts r.held batch) x after = part files told (apart-texts r files told) in
+          let p : IsPart files (batch_texts r.held batch) x after = part files modelled (apart-texts r files modelled) in
           inl (record {
             risen = rises;
             unsteady = unsteady;
             upto = part-of files r x p;
-            line = subst (λ (z : NamedText). IsSaid before after (unwritten_line z.name)) (sym p.failed) said;
+            line = subst (λ (z : NamedText). IsLinePrinted before after (unwritten_line z.name)) (sym p.failed) said;
           })
       go (OutOfRoom x eight part said) = absurd (omega arith)
 
@@ -260,37 +260,37 @@ module _ (names : BatchNames) (before after : Outside) (status : ℕ) (batch : L
 
   batch-starved : Came → status ≡ 8 → ((batch ≡ []) × (after.files ≡ before.files)) ⊎ IsBatchRun names before batch
   batch-starved (Stopped s none) eight = inl (none, s.files)
-  batch-starved (Starved at said same none) eight = inl (none, same)
+  batch-starved (EndedOutOfMemory at said same none) eight = inl (none, same)
   batch-starved (Reached r) eight = inr (run-of-reached r)
 
   batch-part : (files : List StoredFile) → Came → before.files ≡ Some files → status ≡ 8 → batch ≢ [] → IsBatchPart files names before after batch
-  batch-part files (Stopped s none) told eight some = absurd (some none)
-  batch-part files (Starved at said same none) told eight some = absurd (some none)
-  batch-part files (Reached r) told eight some = go r.ended
+  batch-part files (Stopped s none) modelled eight some = absurd (some none)
+  batch-part files (EndedOutOfMemory at said same none) modelled eight some = absurd (some none)
+  batch-part files (Reached r) modelled eight some = go r.ended
     where
       go : Ended (batch_texts r.held batch) (status_lines r.held.lines batch) (batch_status batch) before after status → IsBatchPart files names before after batch
       go (Both is all writes) = absurd (never 8 is eight refl)
       go (NotSaid four all rises less said) = absurd (omega arith)
       go (NotStored x four part rises unsteady said) = absurd (omega arith)
-      go (OutOfRoom x at part said) = part-of files r x (part files told (apart-texts r files told))
+      go (OutOfRoom x at part said) = part-of files r x (part files modelled (apart-texts r files modelled))
 
   batch-unrecorded : Came → IsTrue (is_in (3 ∷ 5 ∷ []) status) → batch ≡ []
   batch-unrecorded (Stopped s none) h = none
-  batch-unrecorded (Starved at said same none) h = none
+  batch-unrecorded (EndedOutOfMemory at said same none) h = none
   batch-unrecorded (Reached r) h = absurd (apart-lists (3 ∷ 5 ∷ []) (0 ∷ 1 ∷ 4 ∷ 8 ∷ 11 ∷ []) status refl h (reached-statuses r))
 
-  batch-memory : Came → status ≡ 8 → IsSaid before after memory_line
+  batch-memory : Came → status ≡ 8 → IsLinePrinted before after memory_line
   batch-memory (Stopped s none) eight = by s.stop s.explains
     where
-      by : (stop : BatchStop) → ExplainsStop stop before.held after.held before.cuts after.cuts status → IsSaid before after memory_line
+      by : (stop : BatchStop) → ExplainsStop stop before.held after.held before.cuts after.cuts status → IsLinePrinted before after memory_line
       by (Unread own (CannotRead input)) e = let three = e.0 in absurd (omega arith)
       by (Unread own (Refused why)) e = let five = e.0 in absurd (omega arith)
       by (Unread own NoMemory) e = e.1
       by (Twice name) e = let five = e.0 in absurd (omega arith)
-  batch-memory (Starved at said same none) eight = said
+  batch-memory (EndedOutOfMemory at said same none) eight = said
   batch-memory (Reached r) eight = go r.ended
     where
-      go : Ended (batch_texts r.held batch) (status_lines r.held.lines batch) (batch_status batch) before after status → IsSaid before after memory_line
+      go : Ended (batch_texts r.held batch) (status_lines r.held.lines batch) (batch_status batch) before after status → IsLinePrinted before after memory_line
       go (Both is all writes) = absurd (never 8 is eight refl)
       go (NotSaid four all rises less said) = absurd (omega arith)
       go (NotStored x four part rises unsteady said) = absurd (omega arith)
@@ -299,51 +299,51 @@ module _ (names : BatchNames) (before after : Outside) (status : ℕ) (batch : L
   -- ---- what stopped the reading
 
   batch-refused : (files : List StoredFile) → Came → before.files ≡ Some files → status ≡ 5 →
-      (stop : BatchStop) × IsRefusing stop × (batch_of files names ≡ Err stop) × IsSaid before after (refused_line stop)
-  batch-refused files (Stopped s none) told five = by s.stop (s.told files told) s.explains
+      (stop : BatchStop) × IsRefusing stop × (batch_of files names ≡ Err stop) × IsLinePrinted before after (refused_line stop)
+  batch-refused files (Stopped s none) modelled five = by s.stop (s.modelled files modelled) s.explains
     where
       by : (stop : BatchStop) → StopsAsHeld before.steady (batch_of files names) stop → ExplainsStop stop before.held after.held before.cuts after.cuts status →
-          (stop : BatchStop) × IsRefusing stop × (batch_of files names ≡ Err stop) × IsSaid before after (refused_line stop)
+          (stop : BatchStop) × IsRefusing stop × (batch_of files names ≡ Err stop) × IsLinePrinted before after (refused_line stop)
       by (Unread own (CannotRead input)) h e = let three = e.0 in absurd (omega arith)
       by (Unread own (Refused why)) h e = (Unread own (Refused why), tt, h, e.1)
       by (Unread own NoMemory) h e = let eight = e.0 in absurd (omega arith)
       by (Twice name) h e = (Twice name, tt, h, e.1)
-  batch-refused files (Starved eight said same none) told five = absurd (omega arith)
-  batch-refused files (Reached r) told five = absurd (off (0 ∷ 1 ∷ 4 ∷ 8 ∷ 11 ∷ []) status 5 (reached-statuses r) five refl)
+  batch-refused files (EndedOutOfMemory eight said same none) modelled five = absurd (omega arith)
+  batch-refused files (Reached r) modelled five = absurd (off (0 ∷ 1 ∷ 4 ∷ 8 ∷ 11 ∷ []) status 5 (reached-statuses r) five refl)
 
-  batch-refuses : (files : List StoredFile) (stop : BatchStop) → Came → before.files ≡ Some files → batch_of files names ≡ Err stop → IsRefusing stop → IsOr 5 before status
-  batch-refuses files stop (Stopped s none) told is refusing = by s.stop (s.told files told) s.explains
+  batch-refuses : (files : List StoredFile) (stop : BatchStop) → Came → before.files ≡ Some files → batch_of files names ≡ Err stop → IsRefusing stop → IsStatusOr 5 before status
+  batch-refuses files stop (Stopped s none) modelled is refusing = by s.stop (s.modelled files modelled) s.explains
     where
       other : (own : InputNames) (input : Input) → stop ≡ Unread own (CannotRead input) → ⊥
       other own input same = subst IsRefusing same refusing
 
-      by : (own : BatchStop) → StopsAsHeld before.steady (batch_of files names) own → ExplainsStop own before.held after.held before.cuts after.cuts status → IsOr 5 before status
+      by : (own : BatchStop) → StopsAsHeld before.steady (batch_of files names) own → ExplainsStop own before.held after.held before.cuts after.cuts status → IsStatusOr 5 before status
       by (Unread own (CannotRead input)) h e = inr (inr (e.0, λ steady. other own input (same-stop stop (Unread own (CannotRead input)) (sym is ∙ h steady))))
       by (Unread own (Refused why)) h e = inl e.0
       by (Unread own NoMemory) h e = inr (inl e.0)
       by (Twice name) h e = inl e.0
-  batch-refuses files stop (Starved eight said same none) told is refusing = inr (inl eight)
-  batch-refuses files stop (Reached r) told is refusing = absurd (not-both r.held stop (sym (r.accepted files told) ∙ is))
+  batch-refuses files stop (EndedOutOfMemory eight said same none) modelled is refusing = inr (inl eight)
+  batch-refuses files stop (Reached r) modelled is refusing = absurd (not-both r.held stop (sym (r.accepted files modelled) ∙ is))
 
   batch-unread : Came → status ≡ 3 → HasRisen before.faults after.faults
-      × ((own : InputNames) × (input : Input) × IsUnderList names before own × IsSaid before after (unread_line (name_of own input)))
+      × ((own : InputNames) × (input : Input) × IsUnderList names before own × IsLinePrinted before after (unread_line (name_of own input)))
   batch-unread (Stopped s none) three = by s.stop s.under s.counted s.explains
     where
       risen : (input : Input) → CountsFault {A = Inputs} before.faults after.faults (Err (CannotRead input)) → HasRisen before.faults after.faults
       risen input c = c.rises
 
       by : (stop : BatchStop) → StopsUnder (IsUnderList names before) stop → CountsStop before.faults after.faults stop → ExplainsStop stop before.held after.held before.cuts after.cuts status →
-          HasRisen before.faults after.faults × ((own : InputNames) × (input : Input) × IsUnderList names before own × IsSaid before after (unread_line (name_of own input)))
+          HasRisen before.faults after.faults × ((own : InputNames) × (input : Input) × IsUnderList names before own × IsLinePrinted before after (unread_line (name_of own input)))
       by (Unread own (CannotRead input)) under c e = (risen input c, (own, input, under, e.1))
       by (Unread own (Refused why)) under c e = let five = e.0 in absurd (omega arith)
       by (Unread own NoMemory) under c e = let eight = e.0 in absurd (omega arith)
       by (Twice name) under c e = let five = e.0 in absurd (omega arith)
-  batch-unread (Starved eight said same none) three = absurd (omega arith)
+  batch-unread (EndedOutOfMemory eight said same none) three = absurd (omega arith)
   batch-unread (Reached r) three = absurd (off (0 ∷ 1 ∷ 4 ∷ 8 ∷ 11 ∷ []) status 3 (reached-statuses r) three refl)
 
   batch-missing : (files : List StoredFile) (own : InputNames) (input : Input) → Came → before.files ≡ Some files → before.steady ≡ true → batch_of files names ≡ Err (Unread own (CannotRead input)) →
-      (status ≡ 8) ⊎ ((status ≡ 3) × IsSaid before after (unread_line (name_of own input)))
-  batch-missing files own input (Stopped s none) told steady is = by s.stop (s.told files told) s.explains
+      (status ≡ 8) ⊎ ((status ≡ 3) × IsLinePrinted before after (unread_line (name_of own input)))
+  batch-missing files own input (Stopped s none) modelled steady is = by s.stop (s.modelled files modelled) s.explains
     where
       same-line : (at : InputNames) (i : Input) → Unread at (CannotRead i) ≡ Unread own (CannotRead input) → name_of at i ≡ name_of own input
       same-line at i e =
@@ -358,41 +358,41 @@ module _ (names : BatchNames) (before after : Outside) (status : ℕ) (batch : L
       another name e = cc
 
       by : (stop : BatchStop) → StopsAsHeld before.steady (batch_of files names) stop → ExplainsStop stop before.held after.held before.cuts after.cuts status →
-          (status ≡ 8) ⊎ ((status ≡ 3) × IsSaid before after (unread_line (name_of own input)))
-      by (Unread at (CannotRead i)) h e = inr (e.0, subst (λ z. IsSaid before after (unread_line z)) (same-line at i (same-stop (Unread at (CannotRead i)) (Unread own (CannotRead input)) (sym (h steady) ∙ is))) e.1)
+          (status ≡ 8) ⊎ ((status ≡ 3) × IsLinePrinted before after (unread_line (name_of own input)))
+      by (Unread at (CannotRead i)) h e = inr (e.0, subst (λ z. IsLinePrinted before after (unread_line z)) (same-line at i (same-stop (Unread at (CannotRead i)) (Unread own (CannotRead input)) (sym (h steady) ∙ is))) e.1)
       by (Unread at (Refused why)) h e = absurd (other at why (same-stop (Unread at (Refused why)) (Unread own (CannotRead input)) (sym h ∙ is)))
       by (Unread at NoMemory) h e = inl e.0
       by (Twice name) h e = absurd (another name (same-stop (Twice name) (Unread own (CannotRead input)) (sym h ∙ is)))
-  batch-missing files own input (Starved eight said same none) told steady is = inl eight
-  batch-missing files own input (Reached r) told steady is = absurd (not-both r.held (Unread own (CannotRead input)) (sym (r.accepted files told) ∙ is))
+  batch-missing files own input (EndedOutOfMemory eight said same none) modelled steady is = inl eight
+  batch-missing files own input (Reached r) modelled steady is = absurd (not-both r.held (Unread own (CannotRead input)) (sym (r.accepted files modelled) ∙ is))
 
   -- if the files hold a batch, a reading stops only because memory ran out or by a fault of the folder
-  stopped-held : (files : List StoredFile) (held : HeldBatch) (n : ℕ) → IsBatchStopped names before after status → before.files ≡ Some files → batch_of files names ≡ Ok held → IsOr n before status
-  stopped-held files held n s told is = by s.stop (s.told files told) s.explains
+  stopped-held : (files : List StoredFile) (held : HeldBatch) (n : ℕ) → IsBatchStopped names before after status → before.files ≡ Some files → batch_of files names ≡ Ok held → IsStatusOr n before status
+  stopped-held files held n s modelled is = by s.stop (s.modelled files modelled) s.explains
     where
-      by : (stop : BatchStop) → StopsAsHeld before.steady (batch_of files names) stop → ExplainsStop stop before.held after.held before.cuts after.cuts status → IsOr n before status
+      by : (stop : BatchStop) → StopsAsHeld before.steady (batch_of files names) stop → ExplainsStop stop before.held after.held before.cuts after.cuts status → IsStatusOr n before status
       by (Unread at (CannotRead i)) h e = inr (inr (e.0, λ steady. not-both held (Unread at (CannotRead i)) (sym is ∙ h steady)))
       by (Unread at (Refused why)) h e = absurd (not-both held (Unread at (Refused why)) (sym is ∙ h))
       by (Unread at NoMemory) h e = inr (inl e.0)
       by (Twice name) h e = absurd (not-both held (Twice name) (sym is ∙ h))
 
   batch-read : (files : List StoredFile) → Came → before.files ≡ Some files → before.steady ≡ true → ((own : InputNames) (input : Input) → batch_of files names ≢ Err (Unread own (CannotRead input))) → status ≢ 3
-  batch-read files (Stopped s none) told steady there = λ three. by s.stop (s.told files told) s.explains three
+  batch-read files (Stopped s none) modelled steady there = λ three. by s.stop (s.modelled files modelled) s.explains three
     where
       by : (stop : BatchStop) → StopsAsHeld before.steady (batch_of files names) stop → ExplainsStop stop before.held after.held before.cuts after.cuts status → status ≡ 3 → ⊥
       by (Unread at (CannotRead i)) h e three = there at i (h steady)
       by (Unread at (Refused why)) h e three = let five = e.0 in omega arith
       by (Unread at NoMemory) h e three = let eight = e.0 in omega arith
       by (Twice name) h e three = let five = e.0 in omega arith
-  batch-read files (Starved eight said same none) told steady there = λ three. omega (arith, eight, three)
-  batch-read files (Reached r) told steady there = λ three. off (0 ∷ 1 ∷ 4 ∷ 8 ∷ 11 ∷ []) status 3 (reached-statuses r) three refl
+  batch-read files (EndedOutOfMemory eight said same none) modelled steady there = λ three. omega (arith, eight, three)
+  batch-read files (Reached r) modelled steady there = λ three. off (0 ∷ 1 ∷ 4 ∷ 8 ∷ 11 ∷ []) status 3 (reached-statuses r) three refl
 
-  batch-complete : (files : List StoredFile) (held : HeldBatch) → Came → before.files ≡ Some files → batch_of files names ≡ Ok held → IsOr 0 before status ⊎ IsTrue (is_in (1 ∷ 4 ∷ 11 ∷ []) status)
-  batch-complete files held (Stopped s none) told is = inl (stopped-held files held 0 s told is)
-  batch-complete files held (Starved eight said same none) told is = inl (inr (inl eight))
-  batch-complete files held (Reached r) told is = go r.ended
+  batch-complete : (files : List StoredFile) (held : HeldBatch) → Came → before.files ≡ Some files → batch_of files names ≡ Ok held → IsStatusOr 0 before status ⊎ IsTrue (is_in (1 ∷ 4 ∷ 11 ∷ []) status)
+  batch-complete files held (Stopped s none) modelled is = inl (stopped-held files held 0 s modelled is)
+  batch-complete files held (EndedOutOfMemory eight said same none) modelled is = inl (inr (inl eight))
+  batch-complete files held (Reached r) modelled is = go r.ended
     where
-      go : Ended (batch_texts r.held batch) (status_lines r.held.lines batch) (batch_status batch) before after status → IsOr 0 before status ⊎ IsTrue (is_in (1 ∷ 4 ∷ 11 ∷ []) status)
+      go : Ended (batch_texts r.held batch) (status_lines r.held.lines batch) (batch_status batch) before after status → IsStatusOr 0 before status ⊎ IsTrue (is_in (1 ∷ 4 ∷ 11 ∷ []) status)
       go (Both done all writes) = elim (either-status (list_any (λ (rec : Record). ends_at_start rec.ending) batch) (list_any (λ (rec : Record). own_status rec == 1) batch) status done) [
         | inl zero ↦ inl (inl zero)
         | inr other ↦ inr other
@@ -403,33 +403,33 @@ module _ (names : BatchNames) (before after : Outside) (status : ℕ) (batch : L
 
   -- ---- the other files
 
-  stand : (files : List StoredFile) (xs : List (List ℕ)) → before.files ≡ Some files → after.files ≡ before.files → MatchOption after.files ⊥ (λ new. AllOthersStand files new xs)
-  stand files xs told same = subst (λ o. MatchOption o ⊥ (λ new. AllOthersStand files new xs)) (sym (same ∙ told)) (λ other k. refl)
+  stand : (files : List StoredFile) (xs : List (List ℕ)) → before.files ≡ Some files → after.files ≡ before.files → MatchOption after.files ⊥ (λ new. AllOthersUnchanged files new xs)
+  stand files xs modelled same = subst (λ o. MatchOption o ⊥ (λ new. AllOthersUnchanged files new xs)) (sym (same ∙ modelled)) (λ other k. refl)
 
   batch-others : (files : List StoredFile) (held : HeldBatch) → Came → before.files ≡ Some files → batch_of files names ≡ Ok held →
-      MatchOption after.files ⊥ (λ new. AllOthersStand files new (map (λ (line : ListedNames). line.result) held.lines))
-  batch-others files held (Stopped s none) told is = stand files (map (λ (line : ListedNames). line.result) held.lines) told s.files
-  batch-others files held (Starved eight said same none) told is = stand files (map (λ (line : ListedNames). line.result) held.lines) told same
-  batch-others files held (Reached r) told is = subst (λ (h : HeldBatch). MatchOption after.files ⊥ (λ new. AllOthersStand files new (map (λ (line : ListedNames). line.result) h.lines))) own (go r.ended)
+      MatchOption after.files ⊥ (λ new. AllOthersUnchanged files new (map (λ (line : ListedNames). line.result) held.lines))
+  batch-others files held (Stopped s none) modelled is = stand files (map (λ (line : ListedNames). line.result) held.lines) modelled s.files
+  batch-others files held (EndedOutOfMemory eight said same none) modelled is = stand files (map (λ (line : ListedNames). line.result) held.lines) modelled same
+  batch-others files held (Reached r) modelled is = subst (λ (h : HeldBatch). MatchOption after.files ⊥ (λ new. AllOthersUnchanged files new (map (λ (line : ListedNames). line.result) h.lines))) own (go r.ended)
     where
       own : r.held ≡ held
-      own = same-held r.held held (sym (r.accepted files told) ∙ is)
+      own = same-held r.held held (sym (r.accepted files modelled) ∙ is)
 
       texts : List NamedText
       texts = batch_texts r.held batch
 
-      whole : (new : List StoredFile) → AreStored files new (batch_texts r.held batch) → AllOthersStand files new (map (λ (line : ListedNames). line.result) r.held.lines)
+      whole : (new : List StoredFile) → AreStored files new (batch_texts r.held batch) → AllOthersUnchanged files new (map (λ (line : ListedNames). line.result) r.held.lines)
       whole new st = λ other k. st.others other (other-results r.held.lines (own_texts r.held.inputs batch) other k)
 
-      some : (x : NamedText) → IsPart files (batch_texts r.held batch) x after → MatchOption after.files ⊥ (λ new. AllOthersStand files new (map (λ (line : ListedNames). line.result) r.held.lines))
-      some x p = subst (λ o. MatchOption o ⊥ (λ new. AllOthersStand files new (map (λ (line : ListedNames). line.result) r.held.lines))) (sym p.now_told)
+      some : (x : NamedText) → IsPart files (batch_texts r.held batch) x after → MatchOption after.files ⊥ (λ new. AllOthersUnchanged files new (map (λ (line : ListedNames). line.result) r.held.lines))
+      some x p = subst (λ o. MatchOption o ⊥ (λ new. AllOthersUnchanged files new (map (λ (line : ListedNames). line.result) r.held.lines))) (sym p.now_modelled)
           (λ other k. others-up-to files p.new (batch_texts r.held batch) p.part other (other-results r.held.lines (own_texts r.held.inputs batch) other k))
 
-      go : Ended (batch_texts r.held batch) (status_lines r.held.lines batch) (batch_status batch) before after status → MatchOption after.files ⊥ (λ new. AllOthersStand files new (map (λ (line : ListedNames). line.result) r.held.lines))
-      go (Both done all writes) = for-told after.files (λ new. AreStored files new (batch_texts r.held batch)) (λ new. AllOthersStand files new (map (λ (line : ListedNames). line.result) r.held.lines)) whole (all files told (apart-texts r files told))
-      go (NotSaid four all rises less said) = for-told after.files (λ new. AreStored files new (batch_texts r.held batch)) (λ new. AllOthersStand files new (map (λ (line : ListedNames). line.result) r.held.lines)) whole (all files told (apart-texts r files told))
-      go (NotStored x four part rises unsteady said) = some x (part files told (apart-texts r files told))
-      go (OutOfRoom x eight part said) = some x (part files told (apart-texts r files told))
+      go : Ended (batch_texts r.held batch) (status_lines r.held.lines batch) (batch_status batch) before after status → MatchOption after.files ⊥ (λ new. AllOthersUnchanged files new (map (λ (line : ListedNames). line.result) r.held.lines))
+      go (Both done all writes) = for-told after.files (λ new. AreStored files new (batch_texts r.held batch)) (λ new. AllOthersUnchanged files new (map (λ (line : ListedNames). line.result) r.held.lines)) whole (all files modelled (apart-texts r files modelled))
+      go (NotSaid four all rises less said) = for-told after.files (λ new. AreStored files new (batch_texts r.held batch)) (λ new. AllOthersUnchanged files new (map (λ (line : ListedNames). line.result) r.held.lines)) whole (all files modelled (apart-texts r files modelled))
+      go (NotStored x four part rises unsteady said) = some x (part files modelled (apart-texts r files modelled))
+      go (OutOfRoom x eight part said) = some x (part files modelled (apart-texts r files modelled))
 
   -- without records there are no texts
   no-texts : (lines : List ListedNames) (inputs : List Inputs) → texts_under lines (own_texts inputs []) ≡ []
@@ -443,7 +443,7 @@ module _ (names : BatchNames) (before after : Outside) (status : ℕ) (batch : L
 
   batch-untouched : BatchEnds names before after status batch → batch ≡ [] → after.files ≡ before.files
   batch-untouched (BatchStopped s none) empty = s.files
-  batch-untouched (BatchStarved s none) empty = s.files
+  batch-untouched (BatchOutOfMemory s none) empty = s.files
   batch-untouched (BatchRan held are of d) empty =
       let none : batch_texts held batch ≡ [] = ap (batch_texts held) empty ∙ no-texts held.lines held.inputs in
       printed-alone (status_lines held.lines batch) (batch_status batch) (subst (λ xs. Delivers xs (status_lines held.lines batch) (batch_status batch) before after status) none d)
@@ -452,21 +452,21 @@ module _ (names : BatchNames) (before after : Outside) (status : ℕ) (batch : L
   batch-promises end = let way = came end in record {
     statuses = batch-statuses way;
     done = batch-done way;
-    each = λ files told h. batch-each files way told h;
+    each = λ files modelled h. batch-each files way modelled h;
     recorded = λ four. run-of-reached (reached-at way (one-of (0 ∷ 1 ∷ 4 ∷ 11 ∷ []) status 4 four refl));
     unrecorded = batch-unrecorded way;
-    starved = batch-starved way;
-    part_stored = λ files told eight some. batch-part files way told eight some;
-    refused = λ files told five. batch-refused files way told five;
-    refuses = λ files stop told is refusing. batch-refuses files stop way told is refusing;
+    out_of_memory = batch-starved way;
+    part_stored = λ files modelled eight some. batch-part files way modelled eight some;
+    refused = λ files modelled five. batch-refused files way modelled five;
+    refuses = λ files stop modelled is refusing. batch-refuses files stop way modelled is refusing;
     unread = batch-unread way;
-    missing = λ files own input told steady is. batch-missing files own input way told steady is;
-    surely_read = λ files told steady there. batch-read files way told steady there;
+    missing = λ files own input modelled steady is. batch-missing files own input way modelled steady is;
+    surely_read = λ files modelled steady there. batch-read files way modelled steady there;
     unwritten = batch-unwritten way;
-    unstored = λ files told four. batch-unstored files way told four;
+    unstored = λ files modelled four. batch-unstored files way modelled four;
     surely_written = batch-surely way;
-    complete = λ files held told is. batch-complete files held way told is;
-    others = λ files held told is. batch-others files held way told is;
+    complete = λ files held modelled is. batch-complete files held way modelled is;
+    others = λ files held modelled is. batch-others files held way modelled is;
     untouched = batch-untouched end;
     memory = batch-memory way;
   }

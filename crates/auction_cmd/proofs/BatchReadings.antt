@@ -6,18 +6,18 @@ use Rattle.std.proofs.lemmas.List.Elements.{All-cons, All-head, All-nil, All-tai
 use Rattle.pack_defs.proofs.Members.{Contains-here, Contains-there}
 use Rattle.outside_io.specs.Files.{StoredFile}
 use Rattle.constraint_files.specs.Domains.{domains_of}
-use Rattle.constraint_files.specs.Rows.{PairsView, pairs_of}
+use Rattle.constraint_files.specs.PairTable.{PairsView, pairs_of}
 use Rattle.pack_defs.specs.declared.domain.Domain.{Domain}
 use Rattle.pack_defs.specs.declared.scenario.Scenario.{Scenario}
-use Rattle.scenario_json.specs.Joined.{joined}
+use Rattle.scenario_json.specs.Join.{joined}
 use Rattle.scenario_json.specs.ScenarioOf.{scenario_of}
 use Rattle.batch_list.specs.ListOf.{ListedNames}
 use Rattle.batch_list.specs.Repeated.{names_given, repeated_result}
-use Rattle.commands.specs.declared.batch_inputs.Constraints.{Constraints}
+use Rattle.commands.specs.declared.inputs.batch_inputs.Constraints.{Constraints}
 use Rattle.commands.specs.declared.inputs.Inputs.{Inputs}
-use Rattle.commands.specs.declared.input_file.Stop.{Stop}
+use Rattle.commands.specs.declared.inputs.input_file.Stop.{Stop}
 use Rattle.command_words.specs.declared.run_words.Input.TheVariants.{Domains, Rows, Scenario as ScenarioFile}
-use Rattle.commands.specs.Batch.{BatchStop, HeldBatch, ListedView, among, batch_of, constraints_of, each_inputs, unless_stopped, inputs_beside, list_named, listing_of, once_each, texts_under, names_in_words}
+use Rattle.commands.specs.Batch.{BatchStop, HeldBatch, ListedView, among, batch_of, constraints_of, each_inputs, unless_stopped, inputs_with_constraints, list_named, listing_of, once_each, texts_under, names_in_words}
 use Rattle.command_words.specs.Words.{inputs_with}
 use Rattle.commands.specs.Delivery.{IsOther, names_of}
 use Rattle.commands.specs.Inputs.{and_then, file_of, inputs_from, inputs_of, rows_read, scenario_read, sources_of}
@@ -56,9 +56,9 @@ held-as held = Ok held
 -- ---- one line
 
 -- the inputs after the constraint files are those of all three files
-beside-inputs : (files : List StoredFile) (names : BatchNames) (own scenario : List ℕ) (c : Constraints) (inputs : Inputs) → constraints_of files (inputs_with names own) ≡ Ok c → inputs_beside files c scenario ≡ Ok inputs →
+beside-inputs : (files : List StoredFile) (names : BatchNames) (own scenario : List ℕ) (c : Constraints) (inputs : Inputs) → constraints_of files (inputs_with names own) ≡ Ok c → inputs_with_constraints files c scenario ≡ Ok inputs →
     inputs_of files (inputs_with names scenario) ≡ Ok inputs
-unfolding constraints_of inputs_beside inputs_of sources_of
+unfolding constraints_of inputs_with_constraints inputs_of sources_of
 beside-inputs files names own scenario c inputs e h =
     let read_domains : Result (List Domain) Stop = and_then (file_of files names.domains Domains) (λ bytes. rows_read Domains (domains_of bytes)) in
     let read_pairs : List Domain → Result PairsView Stop = λ domains. and_then (file_of files names.rows Rows) (λ bytes. rows_read Rows (pairs_of bytes domains)) in
@@ -79,11 +79,11 @@ pub each-own : (files : List StoredFile) (names : BatchNames) (own : List ℕ) (
 each-own files names own c [] [] are e = tt
 each-own files names own c [] (i ∷ is) are e = cc
 each-own files names own c (line ∷ lines) inputs are e =
-    let (first, first_is, rest) = on-ok (among (inputs_with names line.scenario) (inputs_beside files c line.scenario)) (λ i. unless_stopped (each_inputs files names c lines) (λ more. Ok (i ∷ more))) inputs e in
+    let (first, first_is, rest) = on-ok (among (inputs_with names line.scenario) (inputs_with_constraints files c line.scenario)) (λ i. unless_stopped (each_inputs files names c lines) (λ more. Ok (i ∷ more))) inputs e in
     let (more, more_are, made) = on-ok (each_inputs files names c lines) (λ more. Ok (first ∷ more)) inputs rest in
     let same : first ∷ more ≡ inputs = same-list (first ∷ more) inputs made in
     subst (λ is. AllZip (λ (line : ListedNames) i. inputs_of files (inputs_with names line.scenario) ≡ Ok i) (line ∷ lines) is) same
-    (beside-inputs files names own line.scenario c first are (among-ok (inputs_with names line.scenario) (inputs_beside files c line.scenario) first first_is), each-own files names own c lines more are more_are)
+    (beside-inputs files names own line.scenario c first are (among-ok (inputs_with names line.scenario) (inputs_with_constraints files c line.scenario) first first_is), each-own files names own c lines more are more_are)
   where
     same-list : (a b : List Inputs) → inputs-as a ≡ inputs-as b → a ≡ b
     same-list a b k = cc

@@ -11,26 +11,26 @@ use Rattle.outside_io.specs.Loads.{Stores}
 use Rattle.auction_core.specs.Backed.{undecided_of}
 use Rattle.auction_core.specs.declared.record.Record.{Record}
 use Rattle.auction_core.specs.declared.record.Step.{Step}
-use Rattle.open_tests.specs.Queries.{step_numbered}
-use Rattle.open_tests.specs.Settling.{formula_text}
-use Rattle.commands.specs.declared.fault.TranscriptFault.{TranscriptFault}
+use Rattle.undecided_tests.specs.Queries.{step_numbered}
+use Rattle.undecided_tests.specs.Settling.{formula_text}
+use Rattle.commands.specs.declared.messages.fault.TranscriptFault.{TranscriptFault}
 use Rattle.commands.specs.declared.inputs.Inputs.{Inputs}
-use Rattle.commands.specs.declared.input_file.Stop.TheVariants.{Refused}
-use Rattle.commands.specs.declared.refusal.Refusal.{Refusal}
+use Rattle.commands.specs.declared.inputs.input_file.Stop.TheVariants.{Refused}
+use Rattle.commands.specs.declared.messages.refusal.Refusal.{Refusal}
 use Rattle.commands.specs.declared.settling.StepFault.{StepFault}
 use Rattle.commands.specs.declared.settling.StepFault.TheVariants.{NoSuchStep}
-use Rattle.commands.specs.Delivery.{AllOthersStand, AreStored, IsNotStored, IsOther, IsStored, NamedText, named}
+use Rattle.commands.specs.Delivery.{AllOthersUnchanged, AreStored, IsNotStored, IsOther, IsStored, NamedText, named}
 use Rattle.commands.specs.Delivery.IsNotStored.{Unwritten, OutOfRoom}
 use Rattle.commands.specs.Ends.{ExportEnds, IsShown, VerifyEnds}
-use Rattle.commands.specs.Ends.ExportEnds.{Unshown, ExportStarved, NoStep, FormulaStored, FormulaNotStored}
-use Rattle.commands.specs.Ends.VerifyEnds.{VerifyStopped, VerifyStarved, NotLoaded, NotSound, Sound}
+use Rattle.commands.specs.Ends.ExportEnds.{Unshown, ExportOutOfMemory, NoStep, FormulaStored, FormulaNotStored}
+use Rattle.commands.specs.Ends.VerifyEnds.{VerifyStopped, VerifyOutOfMemory, NotLoaded, NotSound, Sound}
 use Rattle.commands.specs.ExportPromises.{ExportPromises, IsStepAsked}
 use Rattle.commands.specs.Inputs.{inputs_of, transcript_limit}
-use Rattle.commands.specs.Outside.{Outside, IsSaid}
-use Rattle.commands.specs.Says.{memory_line, unwritten_line}
+use Rattle.commands.specs.Outside.{Outside, IsLinePrinted}
+use Rattle.commands.specs.Messages.{memory_line, unwritten_line}
 use Rattle.commands.specs.Settling.{missing_fault, step_line}
 use Rattle.commands.specs.Verified.{verified}
-use Rattle.commands.specs.VerifyPromises.{IsGiven, IsOr, VerifyPromises}
+use Rattle.commands.specs.VerifyPromises.{IsGiven, IsStatusOr, VerifyPromises}
 use Rattle.command_words.specs.Words.{ExportNames, VerifyNames}
 use Rattle.commands.proofs.DeliveryLemmas.{all-more, all-none, for-told, others-up-to, part-here}
 use Rattle.commands.proofs.Halts.{not-both, stopped-statuses}
@@ -44,17 +44,17 @@ use Rattle.auction_cmd.proofs.VerifyLemmas.{verify-promises}
 -- if `export` ended as `verify` without a record
 pub unshown-statuses : (names : VerifyNames) (before after : Outside) (status : ℕ) (found : Option Record) → VerifyEnds names before after status found → found ≡ None → IsTrue (is_in (3 ∷ 5 ∷ 8 ∷ 9 ∷ []) status)
 unshown-statuses names before after status found (VerifyStopped s none) absent = within (3 ∷ 5 ∷ 8 ∷ []) (3 ∷ 5 ∷ 8 ∷ 9 ∷ []) status refl (stopped-statuses names.inputs before after status s)
-unshown-statuses names before after status found (VerifyStarved s) absent = one-of (3 ∷ 5 ∷ 8 ∷ 9 ∷ []) status 8 s.status_is refl
+unshown-statuses names before after status found (VerifyOutOfMemory s) absent = one-of (3 ∷ 5 ∷ 8 ∷ 9 ∷ []) status 8 s.status_is refl
 unshown-statuses names before after status found (NotLoaded inputs are n none same) absent = within (3 ∷ 5 ∷ []) (3 ∷ 5 ∷ 8 ∷ 9 ∷ []) status refl (unloaded-statuses names.transcript before after status n)
 unshown-statuses names before after status found (NotSound inputs text fault are can held is nine none said same) absent = one-of (3 ∷ 5 ∷ 8 ∷ 9 ∷ []) status 9 nine refl
 unshown-statuses names before after status found (Sound inputs text rec are can held is of kept p) absent = cc (sym kept ∙ absent)
 
 -- what `verify` would have completed was not completed because memory ran out or an unsteady folder failed
-pub unshown-or : (names : VerifyNames) (before after : Outside) (status wanted : ℕ) (found : Option Record) (files : List StoredFile) (inputs : Inputs) (text : List ℕ) (rec : Record) → VerifyEnds names before after status found → found ≡ None → before.files ≡ Some files → IsGiven files names inputs text → verified inputs text ≡ Ok rec → IsOr wanted before status
-unshown-or names before after status wanted found files inputs text rec end none told g ok =
+pub unshown-or : (names : VerifyNames) (before after : Outside) (status wanted : ℕ) (found : Option Record) (files : List StoredFile) (inputs : Inputs) (text : List ℕ) (rec : Record) → VerifyEnds names before after status found → found ≡ None → before.files ≡ Some files → IsGiven files names inputs text → verified inputs text ≡ Ok rec → IsStatusOr wanted before status
+unshown-or names before after status wanted found files inputs text rec end none modelled g ok =
     let v : VerifyPromises names before after status found = verify-promises names before after status found end in
     let statuses = unshown-statuses names before after status found end none in
-    elim (v.complete files inputs text rec told g ok) [
+    elim (v.complete files inputs text rec modelled g ok) [
       | inl (inl done) ↦ absurd (apart-lists (0 ∷ 1 ∷ []) (3 ∷ 5 ∷ 8 ∷ 9 ∷ []) status refl (subst (λ z. IsTrue (is_in (0 ∷ 1 ∷ []) z)) (sym done) (done-within (undecided_of rec.steps))) statuses)
       | inl (inr other) ↦ inr other
       | inr four ↦ absurd (off (3 ∷ 5 ∷ 8 ∷ 9 ∷ []) status 4 statuses four refl)
@@ -64,23 +64,23 @@ unshown-or names before after status wanted found files inputs text rec end none
 
 -- what verifies is what the files hold
 pub shown-given : (files : List StoredFile) (names : VerifyNames) (before : Outside) (inputs : Inputs) (rec : Record) → before.files ≡ Some files → (s : IsShown names before inputs rec) → IsGiven files names inputs s.text
-shown-given files names before inputs rec told s = is-given files names before inputs s.text told s.accepted s.held
+shown-given files names before inputs rec modelled s = is-given files names before inputs s.text modelled s.accepted s.held
 
 -- and it is the only result of the check
 pub shown-is : (files : List StoredFile) (names : VerifyNames) (before : Outside) (own inputs : Inputs) (text : List ℕ) (rec other : Record) → before.files ≡ Some files → IsShown names before own rec → IsGiven files names inputs text → verified inputs text ≡ Ok other → rec ≡ other
-shown-is files names before own inputs text rec other told s g ok =
-    same-record rec other (verified own s.text) s.sound (same-verified files names own inputs s.text text (shown-given files names before own rec told s) g ∙ ok)
+shown-is files names before own inputs text rec other modelled s g ok =
+    same-record rec other (verified own s.text) s.sound (same-verified files names own inputs s.text text (shown-given files names before own rec modelled s) g ∙ ok)
 
 -- a transcript that verifies is not rejected
 pub shown-not-refused : {X : Type 0} (files : List StoredFile) (names : VerifyNames) (before : Outside) (own inputs : Inputs) (text : List ℕ) (rec : Record) (fault : TranscriptFault) → before.files ≡ Some files → IsShown names before own rec → IsGiven files names inputs text → verified inputs text ≡ Err fault → X
-shown-not-refused files names before own inputs text rec fault told s g err =
-    absurd (not-both-verified rec fault (verified own s.text) s.sound (same-verified files names own inputs s.text text (shown-given files names before own rec told s) g ∙ err))
+shown-not-refused files names before own inputs text rec fault modelled s g err =
+    absurd (not-both-verified rec fault (verified own s.text) s.sound (same-verified files names own inputs s.text text (shown-given files names before own rec modelled s) g ∙ err))
 
 pub shown-not-halted : {X : Type 0} (files : List StoredFile) (names : VerifyNames) (before : Outside) (own : Inputs) (rec : Record) (why : Refusal) → before.files ≡ Some files → IsShown names before own rec → inputs_of files names.inputs ≡ Err (Refused why) → X
-shown-not-halted files names before own rec why told s err = absurd (not-both own (Refused why) (sym (s.accepted files told) ∙ err))
+shown-not-halted files names before own rec why modelled s err = absurd (not-both own (Refused why) (sym (s.accepted files modelled) ∙ err))
 
 pub shown-not-long : {X : Type 0} (files : List StoredFile) (names : VerifyNames) (before : Outside) (own : Inputs) (rec : Record) (bytes : List ℕ) → before.files ≡ Some files → IsShown names before own rec → bytes_of files names.transcript ≡ Some bytes → transcript_limit < length bytes → X
-shown-not-long files names before own rec bytes told s is more = absurd (not-long files names own s.text bytes (shown-given files names before own rec told s) is more)
+shown-not-long files names before own rec bytes modelled s is more = absurd (not-long files names own s.text bytes (shown-given files names before own rec modelled s) is more)
 
 -- ---- the step
 
@@ -110,145 +110,145 @@ module _ (names : ExportNames) (before after : Outside) (status : ℕ) (found : 
 
   pub export-statuses : ExportEnds names before after status found → IsTrue (is_in (0 ∷ 3 ∷ 4 ∷ 5 ∷ 8 ∷ 9 ∷ 10 ∷ []) status)
   export-statuses (Unshown end none) = within (3 ∷ 5 ∷ 8 ∷ 9 ∷ []) (0 ∷ 3 ∷ 4 ∷ 5 ∷ 8 ∷ 9 ∷ 10 ∷ []) status refl (unshown-statuses names.shown before after status found end none)
-  export-statuses (ExportStarved s) = one-of (0 ∷ 3 ∷ 4 ∷ 5 ∷ 8 ∷ 9 ∷ 10 ∷ []) status 8 s.status_is refl
+  export-statuses (ExportOutOfMemory s) = one-of (0 ∷ 3 ∷ 4 ∷ 5 ∷ 8 ∷ 9 ∷ 10 ∷ []) status 8 s.status_is refl
   export-statuses (NoStep inputs rec fault s is ten none said same) = one-of (0 ∷ 3 ∷ 4 ∷ 5 ∷ 8 ∷ 9 ∷ 10 ∷ []) status 10 ten refl
   export-statuses (FormulaStored inputs rec s is zero none stored) = one-of (0 ∷ 3 ∷ 4 ∷ 5 ∷ 8 ∷ 9 ∷ 10 ∷ []) status 0 zero refl
   export-statuses (FormulaNotStored inputs rec s is none not) = within (4 ∷ 8 ∷ []) (0 ∷ 3 ∷ 4 ∷ 5 ∷ 8 ∷ 9 ∷ 10 ∷ []) status refl (unstored-statuses (text inputs rec) not)
 
   pub export-none : ExportEnds names before after status found → found ≡ None
   export-none (Unshown end none) = none
-  export-none (ExportStarved s) = s.found_is
+  export-none (ExportOutOfMemory s) = s.found_is
   export-none (NoStep inputs rec fault s is ten none said same) = none
   export-none (FormulaStored inputs rec s is zero none stored) = none
   export-none (FormulaNotStored inputs rec s is none not) = none
 
   export-silent : ExportEnds names before after status found → status ≡ 0 → after.held ≡ before.held
   export-silent (Unshown end none) zero = absurd (off (3 ∷ 5 ∷ 8 ∷ 9 ∷ []) status 0 (unshown-statuses names.shown before after status found end none) zero refl)
-  export-silent (ExportStarved s) zero = let eight = s.status_is in absurd (omega arith)
+  export-silent (ExportOutOfMemory s) zero = let eight = s.status_is in absurd (omega arith)
   export-silent (NoStep inputs rec fault s is ten none said same) zero = absurd (omega arith)
   export-silent (FormulaStored inputs rec s is zero none stored) z = stored.held
   export-silent (FormulaNotStored inputs rec s is none not) zero = absurd (off (4 ∷ 8 ∷ []) status 0 (unstored-statuses (text inputs rec) not) zero refl)
 
   -- in a modelled folder the text was stored
   stored-told : (files : List StoredFile) (x : NamedText) → before.files ≡ Some files → IsStored x before after → MatchOption after.files ⊥ (λ new. AreStored files new (x ∷ []))
-  stored-told files x told stored = all-more x [] before after after stored (all-none after after refl) files told (All-nil (λ name. x.name ≢ name), tt)
+  stored-told files x modelled stored = all-more x [] before after after stored (all-none after after refl) files modelled (All-nil (λ name. x.name ≢ name), tt)
 
   abbrev asked : (files : List StoredFile) (inputs : Inputs) (rec : Record) (there : Option Step) → before.files ≡ Some files → (s : IsShown names.shown before inputs rec) → step_numbered rec.steps names.step ≡ there → IsStepAsked files names.shown names.step there
-  asked files inputs rec there told s is = record { inputs = inputs; text = s.text; given = shown-given files names.shown before inputs rec told s; rec = rec; shown = s.sound; at = is }
+  asked files inputs rec there modelled s is = record { inputs = inputs; text = s.text; given = shown-given files names.shown before inputs rec modelled s; rec = rec; shown = s.sound; at = is }
 
   export-done : (files : List StoredFile) → ExportEnds names before after status found → before.files ≡ Some files → status ≡ 0 →
       (x : Step) × (a : IsStepAsked files names.shown names.step (Some x)) × MatchOption after.files ⊥ (λ new. AreStored files new (named names.formula (formula_text a.inputs.book a.rec names.step) ∷ []))
-  export-done files (Unshown end none) told zero = absurd (off (3 ∷ 5 ∷ 8 ∷ 9 ∷ []) status 0 (unshown-statuses names.shown before after status found end none) zero refl)
-  export-done files (ExportStarved s) told zero = let eight = s.status_is in absurd (omega arith)
-  export-done files (NoStep inputs rec fault s is ten none said same) told zero = absurd (omega arith)
-  export-done files (FormulaStored inputs rec s is zero none stored) told z =
+  export-done files (Unshown end none) modelled zero = absurd (off (3 ∷ 5 ∷ 8 ∷ 9 ∷ []) status 0 (unshown-statuses names.shown before after status found end none) zero refl)
+  export-done files (ExportOutOfMemory s) modelled zero = let eight = s.status_is in absurd (omega arith)
+  export-done files (NoStep inputs rec fault s is ten none said same) modelled zero = absurd (omega arith)
+  export-done files (FormulaStored inputs rec s is zero none stored) modelled z =
       let there = missing-some (step_numbered rec.steps names.step) is in
-      (there.0, asked files inputs rec (Some there.0) told s there.1, stored-told files (text inputs rec) told stored)
-  export-done files (FormulaNotStored inputs rec s is none not) told zero = absurd (off (4 ∷ 8 ∷ []) status 0 (unstored-statuses (text inputs rec) not) zero refl)
+      (there.0, asked files inputs rec (Some there.0) modelled s there.1, stored-told files (text inputs rec) modelled stored)
+  export-done files (FormulaNotStored inputs rec s is none not) modelled zero = absurd (off (4 ∷ 8 ∷ []) status 0 (unstored-statuses (text inputs rec) not) zero refl)
 
-  same-files : (files : List StoredFile) → before.files ≡ Some files → after.files ≡ before.files → MatchOption after.files ⊥ (λ new. AllOthersStand files new (names.formula ∷ []))
-  same-files files told same = subst (λ o. MatchOption o ⊥ (λ new. AllOthersStand files new (names.formula ∷ []))) (sym (same ∙ told)) (λ other k. refl)
+  same-files : (files : List StoredFile) → before.files ≡ Some files → after.files ≡ before.files → MatchOption after.files ⊥ (λ new. AllOthersUnchanged files new (names.formula ∷ []))
+  same-files files modelled same = subst (λ o. MatchOption o ⊥ (λ new. AllOthersUnchanged files new (names.formula ∷ []))) (sym (same ∙ modelled)) (λ other k. refl)
 
-  part-told : (files : List StoredFile) (x : NamedText) (e : StoreErr) → x.name ≡ names.formula → before.files ≡ Some files → Stores before.files after.files x.name x.text (Err e) → MatchOption after.files ⊥ (λ new. AllOthersStand files new (names.formula ∷ []))
-  part-told files x e is told stores =
-      let p = part-here x [] e before after stores files told (All-nil (λ name. x.name ≢ name), tt) in
-      subst (λ o. MatchOption o ⊥ (λ new. AllOthersStand files new (names.formula ∷ []))) (sym p.now_told)
+  part-told : (files : List StoredFile) (x : NamedText) (e : StoreErr) → x.name ≡ names.formula → before.files ≡ Some files → Stores before.files after.files x.name x.text (Err e) → MatchOption after.files ⊥ (λ new. AllOthersUnchanged files new (names.formula ∷ []))
+  part-told files x e is modelled stores =
+      let p = part-here x [] e before after stores files modelled (All-nil (λ name. x.name ≢ name), tt) in
+      subst (λ o. MatchOption o ⊥ (λ new. AllOthersUnchanged files new (names.formula ∷ []))) (sym p.now_modelled)
       (λ other k. others-up-to files p.new (x ∷ []) p.part other (subst (λ n. IsOther (n ∷ []) other) (sym is) k))
 
-  export-others : (files : List StoredFile) → ExportEnds names before after status found → before.files ≡ Some files → MatchOption after.files ⊥ (λ new. AllOthersStand files new (names.formula ∷ []))
-  export-others files (Unshown end none) told = let v = verify-promises names.shown before after status found end in same-files files told v.untouched
-  export-others files (ExportStarved s) told = same-files files told s.files
-  export-others files (NoStep inputs rec fault s is ten none said same) told = same-files files told same
-  export-others files (FormulaStored inputs rec s is zero none stored) told =
-      for-told after.files (λ new. AreStored files new (text inputs rec ∷ [])) (λ new. AllOthersStand files new (names.formula ∷ [])) (λ new st. st.others) (stored-told files (text inputs rec) told stored)
-  export-others files (FormulaNotStored inputs rec s is none (Unwritten four stores rises unsteady said)) told = part-told files (text inputs rec) Failed refl told stores
-  export-others files (FormulaNotStored inputs rec s is none (OutOfRoom eight stores said)) told = part-told files (text inputs rec) NoMemory refl told stores
+  export-others : (files : List StoredFile) → ExportEnds names before after status found → before.files ≡ Some files → MatchOption after.files ⊥ (λ new. AllOthersUnchanged files new (names.formula ∷ []))
+  export-others files (Unshown end none) modelled = let v = verify-promises names.shown before after status found end in same-files files modelled v.untouched
+  export-others files (ExportOutOfMemory s) modelled = same-files files modelled s.files
+  export-others files (NoStep inputs rec fault s is ten none said same) modelled = same-files files modelled same
+  export-others files (FormulaStored inputs rec s is zero none stored) modelled =
+      for-told after.files (λ new. AreStored files new (text inputs rec ∷ [])) (λ new. AllOthersUnchanged files new (names.formula ∷ [])) (λ new st. st.others) (stored-told files (text inputs rec) modelled stored)
+  export-others files (FormulaNotStored inputs rec s is none (Unwritten four stores rises unsteady said)) modelled = part-told files (text inputs rec) Failed refl modelled stores
+  export-others files (FormulaNotStored inputs rec s is none (OutOfRoom eight stores said)) modelled = part-told files (text inputs rec) NoMemory refl modelled stores
 
   export-untouched : ExportEnds names before after status found → IsTrue (is_in (3 ∷ 5 ∷ 9 ∷ 10 ∷ []) status) → after.files ≡ before.files
   export-untouched (Unshown end none) h = let v = verify-promises names.shown before after status found end in v.untouched
-  export-untouched (ExportStarved s) h = s.files
+  export-untouched (ExportOutOfMemory s) h = s.files
   export-untouched (NoStep inputs rec fault s is ten none said same) h = same
   export-untouched (FormulaStored inputs rec s is zero none stored) h = absurd (off (3 ∷ 5 ∷ 9 ∷ 10 ∷ []) status 0 h zero refl)
   export-untouched (FormulaNotStored inputs rec s is none not) h = absurd (apart-lists (3 ∷ 5 ∷ 9 ∷ 10 ∷ []) (4 ∷ 8 ∷ []) status refl h (unstored-statuses (text inputs rec) not))
 
-  export-missing : (files : List StoredFile) → ExportEnds names before after status found → before.files ≡ Some files → status ≡ 10 → IsStepAsked files names.shown names.step None × IsSaid before after (step_line names.step NoSuchStep)
-  export-missing files (Unshown end none) told ten = absurd (off (3 ∷ 5 ∷ 8 ∷ 9 ∷ []) status 10 (unshown-statuses names.shown before after status found end none) ten refl)
-  export-missing files (ExportStarved s) told ten = let eight = s.status_is in absurd (omega arith)
-  export-missing files (NoStep inputs rec fault s is ten none said same) told t =
+  export-missing : (files : List StoredFile) → ExportEnds names before after status found → before.files ≡ Some files → status ≡ 10 → IsStepAsked files names.shown names.step None × IsLinePrinted before after (step_line names.step NoSuchStep)
+  export-missing files (Unshown end none) modelled ten = absurd (off (3 ∷ 5 ∷ 8 ∷ 9 ∷ []) status 10 (unshown-statuses names.shown before after status found end none) ten refl)
+  export-missing files (ExportOutOfMemory s) modelled ten = let eight = s.status_is in absurd (omega arith)
+  export-missing files (NoStep inputs rec fault s is ten none said same) modelled t =
       let m = missing-none (step_numbered rec.steps names.step) fault is in
-      (asked files inputs rec None told s m.0, subst (λ f. IsSaid before after (step_line names.step f)) m.1 said)
-  export-missing files (FormulaStored inputs rec s is zero none stored) told ten = absurd (omega arith)
-  export-missing files (FormulaNotStored inputs rec s is none not) told ten = absurd (off (4 ∷ 8 ∷ []) status 10 (unstored-statuses (text inputs rec) not) ten refl)
+      (asked files inputs rec None modelled s m.0, subst (λ f. IsLinePrinted before after (step_line names.step f)) m.1 said)
+  export-missing files (FormulaStored inputs rec s is zero none stored) modelled ten = absurd (omega arith)
+  export-missing files (FormulaNotStored inputs rec s is none not) modelled ten = absurd (off (4 ∷ 8 ∷ []) status 10 (unstored-statuses (text inputs rec) not) ten refl)
 
-  export-misses : (files : List StoredFile) → ExportEnds names before after status found → before.files ≡ Some files → IsStepAsked files names.shown names.step None → IsOr 10 before status
-  export-misses files (Unshown end none) told a = unshown-or names.shown before after status 10 found files a.inputs a.text a.rec end none told a.given a.shown
-  export-misses files (ExportStarved s) told a = inr (inl s.status_is)
-  export-misses files (NoStep inputs rec fault s is ten none said same) told a = inl ten
-  export-misses files (FormulaStored inputs rec s is zero none stored) told a =
-      there-not (step_numbered rec.steps names.step) is (ap (λ (r : Record). step_numbered r.steps names.step) (shown-is files names.shown before inputs a.inputs a.text rec a.rec told s a.given a.shown) ∙ a.at)
-  export-misses files (FormulaNotStored inputs rec s is none not) told a =
-      there-not (step_numbered rec.steps names.step) is (ap (λ (r : Record). step_numbered r.steps names.step) (shown-is files names.shown before inputs a.inputs a.text rec a.rec told s a.given a.shown) ∙ a.at)
+  export-misses : (files : List StoredFile) → ExportEnds names before after status found → before.files ≡ Some files → IsStepAsked files names.shown names.step None → IsStatusOr 10 before status
+  export-misses files (Unshown end none) modelled a = unshown-or names.shown before after status 10 found files a.inputs a.text a.rec end none modelled a.given a.shown
+  export-misses files (ExportOutOfMemory s) modelled a = inr (inl s.status_is)
+  export-misses files (NoStep inputs rec fault s is ten none said same) modelled a = inl ten
+  export-misses files (FormulaStored inputs rec s is zero none stored) modelled a =
+      there-not (step_numbered rec.steps names.step) is (ap (λ (r : Record). step_numbered r.steps names.step) (shown-is files names.shown before inputs a.inputs a.text rec a.rec modelled s a.given a.shown) ∙ a.at)
+  export-misses files (FormulaNotStored inputs rec s is none not) modelled a =
+      there-not (step_numbered rec.steps names.step) is (ap (λ (r : Record). step_numbered r.steps names.step) (shown-is files names.shown before inputs a.inputs a.text rec a.rec modelled s a.given a.shown) ∙ a.at)
 
   export-as_verify : ExportEnds names before after status found → IsTrue (is_in (3 ∷ 5 ∷ 9 ∷ []) status) → VerifyPromises names.shown before after status found
   export-as_verify (Unshown end none) h = verify-promises names.shown before after status found end
-  export-as_verify (ExportStarved s) h = absurd (off (3 ∷ 5 ∷ 9 ∷ []) status 8 h s.status_is refl)
+  export-as_verify (ExportOutOfMemory s) h = absurd (off (3 ∷ 5 ∷ 9 ∷ []) status 8 h s.status_is refl)
   export-as_verify (NoStep inputs rec fault s is ten none said same) h = absurd (off (3 ∷ 5 ∷ 9 ∷ []) status 10 h ten refl)
   export-as_verify (FormulaStored inputs rec s is zero none stored) h = absurd (off (3 ∷ 5 ∷ 9 ∷ []) status 0 h zero refl)
   export-as_verify (FormulaNotStored inputs rec s is none not) h = absurd (apart-lists (3 ∷ 5 ∷ 9 ∷ []) (4 ∷ 8 ∷ []) status refl h (unstored-statuses (text inputs rec) not))
 
-  export-refuses : (files : List StoredFile) (inputs : Inputs) (t : List ℕ) (fault : TranscriptFault) → ExportEnds names before after status found → before.files ≡ Some files → IsGiven files names.shown inputs t → verified inputs t ≡ Err fault → IsOr 9 before status
-  export-refuses files inputs t fault (Unshown end none) told g err = let v = verify-promises names.shown before after status found end in v.refuses files inputs t fault told g err
-  export-refuses files inputs t fault (ExportStarved s) told g err = inr (inl s.status_is)
-  export-refuses files inputs t fault (NoStep own rec f s is ten none said same) told g err = shown-not-refused files names.shown before own inputs t rec fault told s g err
-  export-refuses files inputs t fault (FormulaStored own rec s is zero none stored) told g err = shown-not-refused files names.shown before own inputs t rec fault told s g err
-  export-refuses files inputs t fault (FormulaNotStored own rec s is none not) told g err = shown-not-refused files names.shown before own inputs t rec fault told s g err
+  export-refuses : (files : List StoredFile) (inputs : Inputs) (t : List ℕ) (fault : TranscriptFault) → ExportEnds names before after status found → before.files ≡ Some files → IsGiven files names.shown inputs t → verified inputs t ≡ Err fault → IsStatusOr 9 before status
+  export-refuses files inputs t fault (Unshown end none) modelled g err = let v = verify-promises names.shown before after status found end in v.refuses files inputs t fault modelled g err
+  export-refuses files inputs t fault (ExportOutOfMemory s) modelled g err = inr (inl s.status_is)
+  export-refuses files inputs t fault (NoStep own rec f s is ten none said same) modelled g err = shown-not-refused files names.shown before own inputs t rec fault modelled s g err
+  export-refuses files inputs t fault (FormulaStored own rec s is zero none stored) modelled g err = shown-not-refused files names.shown before own inputs t rec fault modelled s g err
+  export-refuses files inputs t fault (FormulaNotStored own rec s is none not) modelled g err = shown-not-refused files names.shown before own inputs t rec fault modelled s g err
 
-  export-refuses_input : (files : List StoredFile) (why : Refusal) → ExportEnds names before after status found → before.files ≡ Some files → inputs_of files names.shown.inputs ≡ Err (Refused why) → IsOr 5 before status
-  export-refuses_input files why (Unshown end none) told err = let v = verify-promises names.shown before after status found end in v.refuses_input files why told err
-  export-refuses_input files why (ExportStarved s) told err = inr (inl s.status_is)
-  export-refuses_input files why (NoStep own rec f s is ten none said same) told err = shown-not-halted files names.shown before own rec why told s err
-  export-refuses_input files why (FormulaStored own rec s is zero none stored) told err = shown-not-halted files names.shown before own rec why told s err
-  export-refuses_input files why (FormulaNotStored own rec s is none not) told err = shown-not-halted files names.shown before own rec why told s err
+  export-refuses_input : (files : List StoredFile) (why : Refusal) → ExportEnds names before after status found → before.files ≡ Some files → inputs_of files names.shown.inputs ≡ Err (Refused why) → IsStatusOr 5 before status
+  export-refuses_input files why (Unshown end none) modelled err = let v = verify-promises names.shown before after status found end in v.refuses_input files why modelled err
+  export-refuses_input files why (ExportOutOfMemory s) modelled err = inr (inl s.status_is)
+  export-refuses_input files why (NoStep own rec f s is ten none said same) modelled err = shown-not-halted files names.shown before own rec why modelled s err
+  export-refuses_input files why (FormulaStored own rec s is zero none stored) modelled err = shown-not-halted files names.shown before own rec why modelled s err
+  export-refuses_input files why (FormulaNotStored own rec s is none not) modelled err = shown-not-halted files names.shown before own rec why modelled s err
 
-  export-refuses_long : (files : List StoredFile) (inputs : Inputs) (bytes : List ℕ) → ExportEnds names before after status found → before.files ≡ Some files → inputs_of files names.shown.inputs ≡ Ok inputs → bytes_of files names.shown.transcript ≡ Some bytes → transcript_limit < length bytes → IsOr 5 before status
-  export-refuses_long files inputs bytes (Unshown end none) told ok is more = let v = verify-promises names.shown before after status found end in v.refuses_long files inputs bytes told ok is more
-  export-refuses_long files inputs bytes (ExportStarved s) told ok is more = inr (inl s.status_is)
-  export-refuses_long files inputs bytes (NoStep own rec f s at ten none said same) told ok is more = shown-not-long files names.shown before own rec bytes told s is more
-  export-refuses_long files inputs bytes (FormulaStored own rec s at zero none stored) told ok is more = shown-not-long files names.shown before own rec bytes told s is more
-  export-refuses_long files inputs bytes (FormulaNotStored own rec s at none not) told ok is more = shown-not-long files names.shown before own rec bytes told s is more
+  export-refuses_long : (files : List StoredFile) (inputs : Inputs) (bytes : List ℕ) → ExportEnds names before after status found → before.files ≡ Some files → inputs_of files names.shown.inputs ≡ Ok inputs → bytes_of files names.shown.transcript ≡ Some bytes → transcript_limit < length bytes → IsStatusOr 5 before status
+  export-refuses_long files inputs bytes (Unshown end none) modelled ok is more = let v = verify-promises names.shown before after status found end in v.refuses_long files inputs bytes modelled ok is more
+  export-refuses_long files inputs bytes (ExportOutOfMemory s) modelled ok is more = inr (inl s.status_is)
+  export-refuses_long files inputs bytes (NoStep own rec f s at ten none said same) modelled ok is more = shown-not-long files names.shown before own rec bytes modelled s is more
+  export-refuses_long files inputs bytes (FormulaStored own rec s at zero none stored) modelled ok is more = shown-not-long files names.shown before own rec bytes modelled s is more
+  export-refuses_long files inputs bytes (FormulaNotStored own rec s at none not) modelled ok is more = shown-not-long files names.shown before own rec bytes modelled s is more
 
   pub export-unread : ExportEnds names before after status found → status ≡ 3 → HasRisen before.faults after.faults
   export-unread end three = let v = export-as_verify end (one-of (3 ∷ 5 ∷ 9 ∷ []) status 3 three refl) in v.unread three
 
-  pub export-unwritten : ExportEnds names before after status found → status ≡ 4 → HasRisen before.faults after.faults × (before.steady ≢ true) × IsSaid before after (unwritten_line names.formula)
+  pub export-unwritten : ExportEnds names before after status found → status ≡ 4 → HasRisen before.faults after.faults × (before.steady ≢ true) × IsLinePrinted before after (unwritten_line names.formula)
   export-unwritten (Unshown end none) four = absurd (off (3 ∷ 5 ∷ 8 ∷ 9 ∷ []) status 4 (unshown-statuses names.shown before after status found end none) four refl)
-  export-unwritten (ExportStarved s) four = let eight = s.status_is in absurd (omega arith)
+  export-unwritten (ExportOutOfMemory s) four = let eight = s.status_is in absurd (omega arith)
   export-unwritten (NoStep inputs rec fault s is ten none said same) four = absurd (omega arith)
   export-unwritten (FormulaStored inputs rec s is zero none stored) four = absurd (omega arith)
   export-unwritten (FormulaNotStored inputs rec s is none (Unwritten is_four stores rises unsteady said)) four = (rises, unsteady, said)
   export-unwritten (FormulaNotStored inputs rec s is none (OutOfRoom eight stores said)) four = absurd (omega arith)
 
   export-unstored : (files : List StoredFile) → ExportEnds names before after status found → before.files ≡ Some files → status ≡ 4 → (x : Step) × IsStepAsked files names.shown names.step (Some x)
-  export-unstored files (Unshown end none) told four = absurd (off (3 ∷ 5 ∷ 8 ∷ 9 ∷ []) status 4 (unshown-statuses names.shown before after status found end none) four refl)
-  export-unstored files (ExportStarved s) told four = let eight = s.status_is in absurd (omega arith)
-  export-unstored files (NoStep inputs rec fault s is ten none said same) told four = absurd (omega arith)
-  export-unstored files (FormulaStored inputs rec s is zero none stored) told four = absurd (omega arith)
-  export-unstored files (FormulaNotStored inputs rec s is none not) told four =
+  export-unstored files (Unshown end none) modelled four = absurd (off (3 ∷ 5 ∷ 8 ∷ 9 ∷ []) status 4 (unshown-statuses names.shown before after status found end none) four refl)
+  export-unstored files (ExportOutOfMemory s) modelled four = let eight = s.status_is in absurd (omega arith)
+  export-unstored files (NoStep inputs rec fault s is ten none said same) modelled four = absurd (omega arith)
+  export-unstored files (FormulaStored inputs rec s is zero none stored) modelled four = absurd (omega arith)
+  export-unstored files (FormulaNotStored inputs rec s is none not) modelled four =
       let there = missing-some (step_numbered rec.steps names.step) is in
-      (there.0, asked files inputs rec (Some there.0) told s there.1)
+      (there.0, asked files inputs rec (Some there.0) modelled s there.1)
 
-  export-complete : (files : List StoredFile) (x : Step) → ExportEnds names before after status found → before.files ≡ Some files → IsStepAsked files names.shown names.step (Some x) → IsOr 0 before status ⊎ (status ≡ 4)
-  export-complete files x (Unshown end none) told a = inl (unshown-or names.shown before after status 0 found files a.inputs a.text a.rec end none told a.given a.shown)
-  export-complete files x (ExportStarved s) told a = inl (inr (inl s.status_is))
-  export-complete files x (NoStep inputs rec fault s is ten none said same) told a =
-      none-missing (step_numbered rec.steps names.step) fault x is (ap (λ (r : Record). step_numbered r.steps names.step) (shown-is files names.shown before inputs a.inputs a.text rec a.rec told s a.given a.shown) ∙ a.at)
-  export-complete files x (FormulaStored inputs rec s is zero none stored) told a = inl (inl zero)
-  export-complete files x (FormulaNotStored inputs rec s is none (Unwritten four stores rises unsteady said)) told a = inr four
-  export-complete files x (FormulaNotStored inputs rec s is none (OutOfRoom eight stores said)) told a = inl (inr (inl eight))
+  export-complete : (files : List StoredFile) (x : Step) → ExportEnds names before after status found → before.files ≡ Some files → IsStepAsked files names.shown names.step (Some x) → IsStatusOr 0 before status ⊎ (status ≡ 4)
+  export-complete files x (Unshown end none) modelled a = inl (unshown-or names.shown before after status 0 found files a.inputs a.text a.rec end none modelled a.given a.shown)
+  export-complete files x (ExportOutOfMemory s) modelled a = inl (inr (inl s.status_is))
+  export-complete files x (NoStep inputs rec fault s is ten none said same) modelled a =
+      none-missing (step_numbered rec.steps names.step) fault x is (ap (λ (r : Record). step_numbered r.steps names.step) (shown-is files names.shown before inputs a.inputs a.text rec a.rec modelled s a.given a.shown) ∙ a.at)
+  export-complete files x (FormulaStored inputs rec s is zero none stored) modelled a = inl (inl zero)
+  export-complete files x (FormulaNotStored inputs rec s is none (Unwritten four stores rises unsteady said)) modelled a = inr four
+  export-complete files x (FormulaNotStored inputs rec s is none (OutOfRoom eight stores said)) modelled a = inl (inr (inl eight))
 
-  pub export-memory : ExportEnds names before after status found → status ≡ 8 → IsSaid before after memory_line
+  pub export-memory : ExportEnds names before after status found → status ≡ 8 → IsLinePrinted before after memory_line
   export-memory (Unshown end none) eight = verify-memory names.shown before after status found end eight
-  export-memory (ExportStarved s) eight = s.line
+  export-memory (ExportOutOfMemory s) eight = s.line
   export-memory (NoStep inputs rec fault s is ten none said same) eight = absurd (omega arith)
   export-memory (FormulaStored inputs rec s is zero none stored) eight = absurd (omega arith)
   export-memory (FormulaNotStored inputs rec s is none (Unwritten four stores rises unsteady said)) eight = absurd (omega arith)
@@ -259,16 +259,16 @@ module _ (names : ExportNames) (before after : Outside) (status : ℕ) (found : 
     statuses = export-statuses end;
     unrecorded = export-none end;
     silent = export-silent end;
-    done = λ files told zero. export-done files end told zero;
-    others = λ files told. export-others files end told;
+    done = λ files modelled zero. export-done files end modelled zero;
+    others = λ files modelled. export-others files end modelled;
     untouched = export-untouched end;
-    missing = λ files told ten. export-missing files end told ten;
-    misses = λ files told a. export-misses files end told a;
+    missing = λ files modelled ten. export-missing files end modelled ten;
+    misses = λ files modelled a. export-misses files end modelled a;
     as_verify = export-as_verify end;
-    refuses = λ files inputs t fault told g err. export-refuses files inputs t fault end told g err;
-    refuses_input = λ files why told err. export-refuses_input files why end told err;
-    refuses_long = λ files inputs bytes told ok is more. export-refuses_long files inputs bytes end told ok is more;
+    refuses = λ files inputs t fault modelled g err. export-refuses files inputs t fault end modelled g err;
+    refuses_input = λ files why modelled err. export-refuses_input files why end modelled err;
+    refuses_long = λ files inputs bytes modelled ok is more. export-refuses_long files inputs bytes end modelled ok is more;
     unwritten = export-unwritten end;
-    unstored = λ files told four. export-unstored files end told four;
-    complete = λ files x told a. export-complete files x end told a;
+    unstored = λ files modelled four. export-unstored files end modelled four;
+    complete = λ files x modelled a. export-complete files x end modelled a;
   }

@@ -4,7 +4,7 @@ pub mod CheckLemmas
 pub mod ExportLemmas
 pub mod ImportLemmas
 pub mod LiveLemmas
-pub mod MadeLemmas
+pub mod GeneratedLemmas
 pub mod MakeEndLemmas
 pub mod MakeLemmas
 pub mod PlanLemmas

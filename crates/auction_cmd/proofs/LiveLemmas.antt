@@ -17,17 +17,17 @@ use Rattle.pack_defs.specs.ClockRule.{ClockTest, clock_rule}
 use Rattle.pack_defs.specs.Prices.{falls, last_round, offer, stays}
 use Rattle.pack_defs.specs.ResultRows.{Frozen, ResultRow, Undecided, on_air_row, row_of}
 use Rattle.pack_defs.specs.Scenario.{StationsAscend, facilities, with_owners}
-use Rattle.pack_defs.specs.Told.{Told, row_told, told}
+use Rattle.pack_defs.specs.TestAnswer.{TestAnswer, row_from_answers, test_answers}
 use Rattle.auction_core.specs.declared.record.Record.{Record}
 use Rattle.auction_core.specs.Backed.{IsBacked, undecided_of}
 use Rattle.commands.specs.declared.inputs.Inputs.{Inputs}
 use Rattle.command_words.specs.declared.run_words.Input.TheVariants.{Owners as OwnersFile}
 use Rattle.commands.specs.Ends.{RunEnds, VerifyEnds}
 use Rattle.commands.specs.Ends.Concludes.{Unfit, StartOpen, Delivered}
-use Rattle.commands.specs.Ends.RunEnds.{RunStopped, RunStarved, Concluded}
-use Rattle.commands.specs.Ends.VerifyEnds.{VerifyStopped, VerifyStarved, NotLoaded, NotSound, Sound}
-use Rattle.commands.specs.Inputs.{bytes_within, file_limit, file_of, inputs_of, live_inputs, owners_read, with_said}
-use Rattle.commands.specs.LivePromises.{AreLive, FollowValues, GoesByOwnLines, IsLive}
+use Rattle.commands.specs.Ends.RunEnds.{RunStopped, RunOutOfMemory, Concluded}
+use Rattle.commands.specs.Ends.VerifyEnds.{VerifyStopped, VerifyOutOfMemory, NotLoaded, NotSound, Sound}
+use Rattle.commands.specs.Inputs.{bytes_within, file_limit, file_of, inputs_of, live_inputs, owners_read, with_owners_file}
+use Rattle.commands.specs.LivePromises.{AreLive, FollowValues, DependsOnOwnLines, IsLive}
 use Rattle.commands.specs.Outside.{Outside}
 use Rattle.commands.specs.Records.{outcome}
 use Rattle.command_words.specs.Words.{InputNames, RunNames, VerifyNames}
@@ -53,14 +53,14 @@ read-lines (Err NoList) lines e = cc
 accepted-live : (files : List StoredFile) (names : InputNames) (owners : List ℕ) (inputs : Inputs) → inputs_of files names ≡ Ok inputs → names.owners ≡ Some owners → AreLive files names owners inputs
 accepted-live files names owners inputs e named =
     let (valued, read, more) = accepted-valued files names inputs e in
-    let as_named : with_said files (Some owners) valued ≡ Ok inputs = subst (λ o. with_said files o valued ≡ Ok inputs) named more in
+    let as_named : with_owners_file files (Some owners) valued ≡ Ok inputs = subst (λ o. with_owners_file files o valued ≡ Ok inputs) named more in
     let (lines, said, same) = said-ok files owners valued inputs as_named in
     let (text, loaded, taken) = then-ok (file_of files owners OwnersFile) (λ bytes. owners_read (owners_of bytes (length (falls valued.scenario)) (facilities valued.scenario))) lines said in
     let (held, within) = bytes-ok (bytes_of files owners) text loaded in
     record {
       valued = valued;
       accepted = read;
-      unsaid = valued-values files names valued read;
+      without_owners = valued-values files names valued read;
       text = text;
       held = held;
       within = within;
@@ -70,7 +70,7 @@ accepted-live files names owners inputs e named =
     }
 
 -- the row of a station depends on the station's own answers
-same-told : (sc : Scenario) (a b : List OwnerLine) (s : ℕ) (xs : List Told) → ((r : ℕ) → stays a r s ≡ stays b r s) → row_told (with_owners sc (Some a)) s xs ≡ row_told (with_owners sc (Some b)) s xs
+same-told : (sc : Scenario) (a b : List OwnerLine) (s : ℕ) (xs : List TestAnswer) → ((r : ℕ) → stays a r s ≡ stays b r s) → row_from_answers (with_owners sc (Some a)) s xs ≡ row_from_answers (with_owners sc (Some b)) s xs
 same-told sc a b s [] agree = refl
 same-told sc a b s (x ∷ xs) agree =
     let frozen : Option ResultRow = Some (record { facility = s; outcome = cond x.undecided Undecided Frozen; round = x.round; price = offer sc s (x.round - 1) }) in
@@ -85,20 +85,20 @@ module _ (sc : Scenario) (book : BookView) (a b : List OwnerLine) (one other : O
   second = with_owners sc (Some b)
 
   -- two live auctions, in any orders, that agree on a station's answers and verdicts
-  same-row : Contains (facilities sc) s → ((r : ℕ) → stays a r s ≡ stays b r s) → told first book one U s ≡ told second book other V s →
+  same-row : Contains (facilities sc) s → ((r : ℕ) → stays a r s ≡ stays b r s) → test_answers first book one U s ≡ test_answers second book other V s →
       row_of U (clock_rule first book one U) s ≡ row_of V (clock_rule second book other V) s
   same-row known agree same = elim (cases_Bool (stays a 0 s)) [
     | inl stayed ↦
         row-by_answers first book one U s known (ap not stayed)
-        ∙ (ap (row_told first s) same
-        ∙ (same-told sc a b s (told second book other V s) agree
+        ∙ (ap (row_from_answers first s) same
+        ∙ (same-told sc a b s (test_answers second book other V s) agree
         ∙ sym (row-by_answers second book other V s known (ap not (sym (agree 0) ∙ stayed)))))
     | inr left ↦ row-of_start first book one U s known (ap not left) ∙ sym (row-of_start second book other V s known (ap not (sym (agree 0) ∙ left)))
   ]
 
 module _ (order : Order) (valued : Inputs) (lines : List OwnerLine) (undecided : List ClockTest) where
   -- a station goes by its owner's answers
-  own-lines : (s : ℕ) → StationsAscend valued.scenario → Contains (facilities valued.scenario) s → GoesByOwnLines order (live_inputs valued lines) lines undecided s
+  own-lines : (s : ℕ) → StationsAscend valued.scenario → Contains (facilities valued.scenario) s → DependsOnOwnLines order (live_inputs valued lines) lines undecided s
   own-lines s ascend known =
       let sc = valued.scenario in
       let live = with_owners sc (Some lines) in
@@ -130,7 +130,7 @@ live-record files names owners order inputs rec found e named backed some =
       backed = own;
       owned = ap (λ (sc : Scenario). sc.owners) backed.scenario ∙ ap (λ (i : Inputs). i.scenario.owners) live.live;
       rule = ap (λ i. outcome rec.order i U) live.live;
-      own_lines = λ s known. subst (λ (i : Inputs). GoesByOwnLines rec.order i live.lines U s) (sym live.live)
+      own_lines = λ s known. subst (λ (i : Inputs). DependsOnOwnLines rec.order i live.lines U s) (sym live.live)
           (own-lines rec.order live.valued live.lines U s
           (subst (λ (i : Inputs). StationsAscend i.scenario) live.live (accepted-ascend files names inputs e))
           (subst (λ (i : Inputs). Contains (facilities i.scenario) s) live.live known));
@@ -147,18 +147,18 @@ module _ (before after : Outside) (status : ℕ) (found : Option Record) where
   gone some none = absurd (not-there found some none)
 
   pub run-live : (files : List StoredFile) (order : Order) (names : RunNames) (owners : List ℕ) → RunEnds order names before after status found → before.files ≡ Some files → names.inputs.owners ≡ Some owners → IsSome found → IsLive files names.inputs owners found
-  run-live files order names owners (RunStopped s none) told named some = gone some none
-  run-live files order names owners (RunStarved s) told named some = gone some s.found_is
-  run-live files order names owners (Concluded inputs rec are (Unfit of six is said same)) told named some = live-record files names.inputs owners order inputs rec found (are files told) named of.backed is
-  run-live files order names owners (Concluded inputs rec are (StartOpen of seven is said same)) told named some = live-record files names.inputs owners order inputs rec found (are files told) named of.backed is
-  run-live files order names owners (Concluded inputs rec are (Delivered of can held is d)) told named some = live-record files names.inputs owners order inputs rec found (are files told) named of.backed is
+  run-live files order names owners (RunStopped s none) test_answers named some = gone some none
+  run-live files order names owners (RunOutOfMemory s) test_answers named some = gone some s.found_is
+  run-live files order names owners (Concluded inputs rec are (Unfit of six is said same)) test_answers named some = live-record files names.inputs owners order inputs rec found (are files test_answers) named of.backed is
+  run-live files order names owners (Concluded inputs rec are (StartOpen of seven is said same)) test_answers named some = live-record files names.inputs owners order inputs rec found (are files test_answers) named of.backed is
+  run-live files order names owners (Concluded inputs rec are (Delivered of can held is d)) test_answers named some = live-record files names.inputs owners order inputs rec found (are files test_answers) named of.backed is
 
   pub verify-live : (files : List StoredFile) (names : VerifyNames) (owners : List ℕ) → VerifyEnds names before after status found → before.files ≡ Some files → names.inputs.owners ≡ Some owners → IsSome found → IsLive files names.inputs owners found
-  verify-live files names owners (VerifyStopped s none) told named some = gone some none
-  verify-live files names owners (VerifyStarved s) told named some = gone some s.found_is
-  verify-live files names owners (NotLoaded inputs are why none same) told named some = gone some none
-  verify-live files names owners (NotSound inputs text fault are can held is nine none said same) told named some = gone some none
-  verify-live files names owners (Sound inputs text rec are can held is of kept printed) told named some = live-record files names.inputs owners rec.order inputs rec found (are files told) named of.backed kept
+  verify-live files names owners (VerifyStopped s none) test_answers named some = gone some none
+  verify-live files names owners (VerifyOutOfMemory s) test_answers named some = gone some s.found_is
+  verify-live files names owners (NotLoaded inputs are why none same) test_answers named some = gone some none
+  verify-live files names owners (NotSound inputs text fault are can held is nine none said same) test_answers named some = gone some none
+  verify-live files names owners (Sound inputs text rec are can held is of kept printed) test_answers named some = live-record files names.inputs owners rec.order inputs rec found (are files test_answers) named of.backed kept
 
   -- a record of an auction without an owners' file has no owners
   abbrev Unsaid : Option Record → Type 0
@@ -173,15 +173,15 @@ module _ (before after : Outside) (status : ℕ) (found : Option Record) where
   nothing none = subst Unsaid (sym none) tt
 
   pub run-unsaid : (files : List StoredFile) (order : Order) (names : RunNames) → RunEnds order names before after status found → before.files ≡ Some files → names.inputs.owners ≡ None → Unsaid found
-  run-unsaid files order names (RunStopped s none) told unnamed = nothing none
-  run-unsaid files order names (RunStarved s) told unnamed = nothing s.found_is
-  run-unsaid files order names (Concluded inputs rec are (Unfit of six is said same)) told unnamed = unsaid-of files names.inputs order inputs rec (are files told) unnamed of.backed is
-  run-unsaid files order names (Concluded inputs rec are (StartOpen of seven is said same)) told unnamed = unsaid-of files names.inputs order inputs rec (are files told) unnamed of.backed is
-  run-unsaid files order names (Concluded inputs rec are (Delivered of can held is d)) told unnamed = unsaid-of files names.inputs order inputs rec (are files told) unnamed of.backed is
+  run-unsaid files order names (RunStopped s none) test_answers unnamed = nothing none
+  run-unsaid files order names (RunOutOfMemory s) test_answers unnamed = nothing s.found_is
+  run-unsaid files order names (Concluded inputs rec are (Unfit of six is said same)) test_answers unnamed = unsaid-of files names.inputs order inputs rec (are files test_answers) unnamed of.backed is
+  run-unsaid files order names (Concluded inputs rec are (StartOpen of seven is said same)) test_answers unnamed = unsaid-of files names.inputs order inputs rec (are files test_answers) unnamed of.backed is
+  run-unsaid files order names (Concluded inputs rec are (Delivered of can held is d)) test_answers unnamed = unsaid-of files names.inputs order inputs rec (are files test_answers) unnamed of.backed is
 
   pub verify-unsaid : (files : List StoredFile) (names : VerifyNames) → VerifyEnds names before after status found → before.files ≡ Some files → names.inputs.owners ≡ None → Unsaid found
-  verify-unsaid files names (VerifyStopped s none) told unnamed = nothing none
-  verify-unsaid files names (VerifyStarved s) told unnamed = nothing s.found_is
-  verify-unsaid files names (NotLoaded inputs are why none same) told unnamed = nothing none
-  verify-unsaid files names (NotSound inputs text fault are can held is nine none said same) told unnamed = nothing none
-  verify-unsaid files names (Sound inputs text rec are can held is of kept printed) told unnamed = unsaid-of files names.inputs rec.order inputs rec (are files told) unnamed of.backed kept
+  verify-unsaid files names (VerifyStopped s none) test_answers unnamed = nothing none
+  verify-unsaid files names (VerifyOutOfMemory s) test_answers unnamed = nothing s.found_is
+  verify-unsaid files names (NotLoaded inputs are why none same) test_answers unnamed = nothing none
+  verify-unsaid files names (NotSound inputs text fault are can held is nine none said same) test_answers unnamed = nothing none
+  verify-unsaid files names (Sound inputs text rec are can held is of kept printed) test_answers unnamed = unsaid-of files names.inputs rec.order inputs rec (are files test_answers) unnamed of.backed kept

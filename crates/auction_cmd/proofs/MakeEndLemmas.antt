@@ -7,21 +7,21 @@ use Rattle.outside_io.specs.Loads.{Writes}
 use Rattle.outside_io.specs.declared.folder.StoreErr.TheVariants.{Failed, NoMemory}
 use Rattle.auction_core.specs.declared.record.Record.{Record}
 use Rattle.auction_core.specs.Backed.{undecided_of}
-use Rattle.scenario_make.specs.MadeFiles.{made_domains, made_rows, made_scenario_text}
+use Rattle.scenario_make.specs.GeneratedFiles.{generated_domains, generated_rows, generated_scenario_text}
 use Rattle.commands.specs.Delivery.{AreAllStored, AreStored, IsStored, NamedText, StopsAtOne}
 use Rattle.commands.specs.Delivery.IsNotStored.{Unwritten, OutOfRoom as NoRoom}
 use Rattle.commands.specs.Delivery.IsPrinted.{Written, CutShort}
 use Rattle.commands.specs.Ends.{MakeEnds}
-use Rattle.commands.specs.Ends.MakeEnds.{MakeStarved, MakeStopped, AuctionStarved, Carried}
-use Rattle.commands.specs.Made.{HasRun, made_inputs, made_texts}
-use Rattle.commands.specs.MakePromises.{AreAllMade, IsMadeRun, made_summary}
-use Rattle.commands.specs.Outside.{Outside, IsSaid}
+use Rattle.commands.specs.Ends.MakeEnds.{MakeOutOfMemory, MakeStopped, AuctionOutOfMemory, MakeResult}
+use Rattle.commands.specs.Make.{HasRun, make_inputs, make_texts}
+use Rattle.commands.specs.MakePromises.{AreMakeFilesStored, IsMakeRun, make_summary}
+use Rattle.commands.specs.Outside.{Outside, IsLinePrinted}
 use Rattle.commands.specs.Records.{done_status}
-use Rattle.commands.specs.Says.{memory_line, unwritten_line}
+use Rattle.commands.specs.Messages.{memory_line, unwritten_line}
 use Rattle.command_words.specs.Words.{MakeNames, repeated_made}
 use Rattle.commands.proofs.DeliveryLemmas.{AreApart, IsPart, LeavesAll, LeavesPart, all-more, all-none, part-here, up-more}
 use Rattle.commands.proofs.OutputNames.{own-made}
-use Rattle.commands.proofs.SaysLemmas.{rises-before}
+use Rattle.commands.proofs.MessageLemmas.{rises-before}
 
 -- ---- the stores
 
@@ -56,8 +56,8 @@ stored-all (x ∷ xs) before between d = all-more x xs before d.0 between d.1 (s
 -- how stores end if not all were done: one failed, or memory ran out
 data Stopped (xs : List NamedText) (before after : Outside) (status : ℕ) : Type 0 where
   Failing : (x : NamedText) → status ≡ 4 → LeavesPart xs x before after → HasRisen before.faults after.faults → before.steady ≢ true →
-      IsSaid before after (unwritten_line x.name) → Stopped xs before after status
-  Starving : (x : NamedText) → status ≡ 8 → LeavesPart xs x before after → IsSaid before after memory_line → Stopped xs before after status
+      IsLinePrinted before after (unwritten_line x.name) → Stopped xs before after status
+  Starving : (x : NamedText) → status ≡ 8 → LeavesPart xs x before after → IsLinePrinted before after memory_line → Stopped xs before after status
 
 stopped-more : (x : NamedText) (xs : List NamedText) (before next after : Outside) (status : ℕ) → IsStored x before next → Stopped xs next after status → Stopped (x ∷ xs) before after status
 stopped-more x xs before next after status s (Failing y four part rises unsteady said) =
@@ -75,26 +75,26 @@ stopped-of (x ∷ xs) before after status (inr (NoRoom eight stores said)) = Sta
 
 -- in a modelled folder the texts were stored up to this one
 abbrev pub MakesPart : MakeNames → NamedText → Outside → Outside → Type 0
-MakesPart names x before after = (files : List StoredFile) → before.files ≡ Some files → IsPart files (made_texts names) x after
+MakesPart names x before after = (files : List StoredFile) → before.files ≡ Some files → IsPart files (make_texts names) x after
 
 -- in a modelled folder all of them were stored
 abbrev pub MakesAll : MakeNames → Outside → Outside → Type 0
-MakesAll names before after = (files : List StoredFile) → before.files ≡ Some files → AreAllMade files names after
+MakesAll names before after = (files : List StoredFile) → before.files ≡ Some files → AreMakeFilesStored files names after
 
 -- How far it came: nothing was stored; a store failed, or memory ran out at it; all was stored, and memory ran out; or the auction
 -- was carried out, and its summary written or not.
 pub data Reached (names : MakeNames) (before after : Outside) (status : ℕ) (found : Option Record) : Type 0 where
-  Nothing : status ≡ 8 → found ≡ None → after.files ≡ before.files → IsSaid before after memory_line → Reached names before after status found
+  Nothing : status ≡ 8 → found ≡ None → after.files ≡ before.files → IsLinePrinted before after memory_line → Reached names before after status found
   OneFailed : (x : NamedText) → status ≡ 4 → found ≡ None → MakesPart names x before after → HasRisen before.faults after.faults → before.steady ≢ true →
-      IsSaid before after (unwritten_line x.name) → Reached names before after status found
-  OneStarved : (x : NamedText) → status ≡ 8 → found ≡ None → MakesPart names x before after → IsSaid before after memory_line → Reached names before after status found
-  AllStarved : status ≡ 8 → found ≡ None → MakesAll names before after → IsSaid before after memory_line → Reached names before after status found
-  Summed : (made : IsMadeRun names found) → MakesAll names before after → status ≡ done_status (undecided_of made.rec.steps) →
-      Writes before.held after.held (made_summary made) (Ok tt) → Reached names before after status found
-  Unsummed : (made : IsMadeRun names found) → MakesAll names before after → status ≡ 4 → HasRisen before.cuts after.cuts →
-      before.sure < length (made_summary made) → IsSaid before after (made_summary made) → Reached names before after status found
+      IsLinePrinted before after (unwritten_line x.name) → Reached names before after status found
+  OneStarved : (x : NamedText) → status ≡ 8 → found ≡ None → MakesPart names x before after → IsLinePrinted before after memory_line → Reached names before after status found
+  AllStarved : status ≡ 8 → found ≡ None → MakesAll names before after → IsLinePrinted before after memory_line → Reached names before after status found
+  Summed : (made : IsMakeRun names found) → MakesAll names before after → status ≡ done_status (undecided_of made.rec.steps) →
+      Writes before.held after.held (make_summary made) (Ok tt) → Reached names before after status found
+  Unsummed : (made : IsMakeRun names found) → MakesAll names before after → status ≡ 4 → HasRisen before.cuts after.cuts →
+      before.sure < length (make_summary made) → IsLinePrinted before after (make_summary made) → Reached names before after status found
 
-abbrev made-run : (names : MakeNames) (found : Option Record) (rec : Record) (summary : List ℕ) → HasRun (made_inputs names.seed names.size) rec summary → found ≡ Some rec → IsMadeRun names found
+abbrev made-run : (names : MakeNames) (found : Option Record) (rec : Record) (summary : List ℕ) → HasRun (make_inputs names.seed names.size) rec summary → found ≡ Some rec → IsMakeRun names found
 made-run names found rec summary run kept = record {
   inputs = run.inputs;
   accepted = run.accepted;
@@ -105,31 +105,31 @@ made-run names found rec summary run kept = record {
 }
 
 module _ (names : MakeNames) (before after : Outside) (status : ℕ) (found : Option Record) where
-  apart : repeated_made names ≡ None → AreApart (made_texts names)
-  apart once = own-made names (made_domains names.size) (made_rows names.seed names.size) (made_scenario_text names.seed names.size) once
+  apart : repeated_made names ≡ None → AreApart (make_texts names)
+  apart once = own-made names (generated_domains names.size) (generated_rows names.seed names.size) (generated_scenario_text names.seed names.size) once
 
   -- if all was stored before, and no file is touched afterwards
-  all-made : (between : Outside) → AreAllStored (made_texts names) before between → after.files ≡ between.files → repeated_made names ≡ None → MakesAll names before after
-  all-made between stored same once files told =
-      subst (λ o. MatchOption o ⊥ (λ new. AreStored files new (made_texts names))) (sym same) (stored-all (made_texts names) before between stored files told (apart once))
+  all-made : (between : Outside) → AreAllStored (make_texts names) before between → after.files ≡ between.files → repeated_made names ≡ None → MakesAll names before after
+  all-made between stored same once files modelled =
+      subst (λ o. MatchOption o ⊥ (λ new. AreStored files new (make_texts names))) (sym same) (stored-all (make_texts names) before between stored files modelled (apart once))
 
-  from-stopped : Stopped (made_texts names) before after status → found ≡ None → repeated_made names ≡ None → Reached names before after status found
-  from-stopped (Failing x four part rises unsteady said) none once = OneFailed x four none (λ files told. part files told (apart once)) rises unsteady said
-  from-stopped (Starving x eight part said) none once = OneStarved x eight none (λ files told. part files told (apart once)) said
+  from-stopped : Stopped (make_texts names) before after status → found ≡ None → repeated_made names ≡ None → Reached names before after status found
+  from-stopped (Failing x four part rises unsteady said) none once = OneFailed x four none (λ files modelled. part files modelled (apart once)) rises unsteady said
+  from-stopped (Starving x eight part said) none once = OneStarved x eight none (λ files modelled. part files modelled (apart once)) said
 
   pub reached : MakeEnds names before after status found → repeated_made names ≡ None → Reached names before after status found
-  reached (MakeStarved s) once = Nothing s.status_is s.found_is s.files s.line
-  reached (MakeStopped stops none) once = from-stopped (stopped-of (made_texts names) before after status stops) none once
-  reached (AuctionStarved between stored s) once =
-      let b = behind (made_texts names) before between stored in
+  reached (MakeOutOfMemory s) once = Nothing s.status_is s.found_is s.files s.line
+  reached (MakeStopped stops none) once = from-stopped (stopped-of (make_texts names) before after status stops) none once
+  reached (AuctionOutOfMemory between stored s) once =
+      let b = behind (make_texts names) before between stored in
       AllStarved s.status_is s.found_is (all-made between stored s.files once) (rw (b.held, b.cuts) at s.line)
-  reached (Carried between rec summary stored run kept (Written is same writes)) once =
-      let b = behind (made_texts names) before between stored in
+  reached (MakeResult between rec summary stored run kept (Written is same writes)) once =
+      let b = behind (make_texts names) before between stored in
       Summed (made-run names found rec summary run kept) (all-made between stored same once) is
       (subst (λ z. Writes before.held after.held z (Ok tt)) run.summary_is (subst (λ z. Writes z after.held summary (Ok tt)) b.held writes))
-  reached (Carried between rec summary stored run kept (CutShort four same rises less said)) once =
-      let b = behind (made_texts names) before between stored in
+  reached (MakeResult between rec summary stored run kept (CutShort four same rises less said)) once =
+      let b = behind (make_texts names) before between stored in
       Unsummed (made-run names found rec summary run kept) (all-made between stored same once) four
       (subst (λ z. HasRisen z after.cuts) b.cuts rises)
       (subst (λ z. before.sure < length z) run.summary_is (subst (λ z. z < length summary) b.sure less))
-      (subst (λ z. IsSaid before after z) run.summary_is (rw (b.held, b.cuts) at said))
+      (subst (λ z. IsLinePrinted before after z) run.summary_is (rw (b.held, b.cuts) at said))

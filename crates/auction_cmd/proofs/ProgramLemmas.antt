@@ -4,16 +4,16 @@ use Rattle.std.specs.Prelude.{IsSome, IsTrue, is_some}
 use Rattle.std.proofs.lemmas.Bool.{false≢true, true≢false}
 use Rattle.auction_core.specs.declared.record.Record.{Record}
 use Rattle.commands.specs.BatchEnds.{BatchEnds}
-use Rattle.commands.specs.BatchEnds.BatchEnds.{BatchStarved}
+use Rattle.commands.specs.BatchEnds.BatchEnds.{BatchOutOfMemory}
 use Rattle.commands.specs.Ends.{Ends}
-use Rattle.commands.specs.Ends.Ends.{Starved, Usage, Repeated, Ran, Checked, Verified, Sought, Made, Exported, Imported}
+use Rattle.commands.specs.Ends.Ends.{EndedOutOfMemory, Usage, Repeated, Ran, Checked, Verified, Sought, Made, Exported, Imported}
 use Rattle.commands.specs.Outside.{Outside}
 use Rattle.commands.specs.Plan.{Plan, batches, resumes}
 use Rattle.auction_cmd.specs.Program.{ProgramEnds, ProgramPromises, is_batch, is_resumption}
 use Rattle.auction_cmd.specs.Program.ProgramEnds.{Single, Resumed, Batched}
 use Rattle.commands.specs.ResumeEnds.{ResumeEnds}
 use Rattle.auction_cmd.specs.ResumePromises.{ResumePromises}
-use Rattle.commands.specs.ResumeEnds.ResumeEnds.{ResumeStarved}
+use Rattle.commands.specs.ResumeEnds.ResumeEnds.{ResumeOutOfMemory}
 use Rattle.command_words.specs.Words.{BatchNames, ResumeNames, repeated_resume}
 use Rattle.auction_cmd.proofs.BatchLemmas.{batch-promises}
 use Rattle.commands.proofs.OutputNames.{own-resumed}
@@ -29,7 +29,7 @@ same-resumes a b e = cc
 module _ (plan : Plan) (before after : Outside) (status : ℕ) (found below : Option Record) where
   -- if no batch was carried out, memory ran out before the command was known
   starved-batch : (names : BatchNames) (batch : List Record) → Ends plan before after status found below → batch ≡ [] → plan ≡ batches names → BatchEnds names before after status batch
-  starved-batch names batch (Starved s still alone) none is = BatchStarved (record { status_is = s.status_is; found_is = refl; line = s.line; files = s.files }) none
+  starved-batch names batch (EndedOutOfMemory s still alone) none is = BatchOutOfMemory (record { status_is = s.status_is; found_is = refl; line = s.line; files = s.files }) none
   starved-batch names batch (Usage text is_none two absent said files still alone) none is = cc
   starved-batch names batch (Repeated name is_name five absent said files still alone) none is = cc
   starved-batch names batch (Ran own is_own once end alone) none is = cc
@@ -42,7 +42,7 @@ module _ (plan : Plan) (before after : Outside) (status : ℕ) (found below : Op
 
   -- and then there is no record
   no-found : (plan_is : IsTrue (is_batch plan)) → Ends plan before after status found below → (found ≡ None) × (below ≡ None)
-  no-found is (Starved s still alone) = (s.found_is, alone)
+  no-found is (EndedOutOfMemory s still alone) = (s.found_is, alone)
   no-found is (Usage text is_none two absent said files still alone) = (absent, alone)
   no-found is (Repeated name is_name five absent said files still alone) = (absent, alone)
   no-found is (Ran own is_own once end alone) = absurd (false≢true (sym (ap is_batch is_own) ∙ is))
@@ -55,7 +55,7 @@ module _ (plan : Plan) (before after : Outside) (status : ℕ) (found below : Op
 
   -- if no auction continued either, memory ran out before the command was known
   starved-resume : (names : ResumeNames) → Ends plan before after status found below → plan ≡ resumes names → ResumeEnds names before after status found × (found ≡ None)
-  starved-resume names (Starved s still alone) is = (ResumeStarved s, s.found_is)
+  starved-resume names (EndedOutOfMemory s still alone) is = (ResumeOutOfMemory s, s.found_is)
   starved-resume names (Usage text is_none two absent said files still alone) is = cc
   starved-resume names (Repeated name is_name five absent said files still alone) is = cc
   starved-resume names (Ran own is_own once end alone) is = cc
@@ -68,7 +68,7 @@ module _ (plan : Plan) (before after : Outside) (status : ℕ) (found below : Op
 
   -- `seek` alone has a second record
   alone-of : IsTrue (is_resumption plan) → Ends plan before after status found below → below ≡ None
-  alone-of is (Starved s still alone) = alone
+  alone-of is (EndedOutOfMemory s still alone) = alone
   alone-of is (Usage text is_none two absent said files still alone) = alone
   alone-of is (Repeated name is_name five absent said files still alone) = alone
   alone-of is (Ran own is_own once end alone) = alone

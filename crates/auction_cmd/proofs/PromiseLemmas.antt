@@ -6,22 +6,22 @@ use Rattle.pack_defs.specs.Lists.{is_in}
 use Rattle.outside_io.specs.Faults.{HasRisen}
 use Rattle.outside_io.specs.Files.{StoredFile}
 use Rattle.auction_core.specs.declared.record.Record.{Record}
-use Rattle.commands.specs.CheckPromises.{CheckPromises, ToldCheck}
+use Rattle.commands.specs.CheckPromises.{CheckPromises, ModelledCheck}
 use Rattle.commands.specs.Ends.{CheckEnds, Ends, ExportEnds, ImportEnds, MakeEnds, RunEnds, SeekEnds, VerifyEnds}
-use Rattle.commands.specs.Ends.CheckEnds.{CheckStarved}
-use Rattle.commands.specs.Ends.Ends.{Starved, Usage, Repeated, Ran, Checked, Verified, Sought, Made, Exported, Imported}
-use Rattle.commands.specs.Ends.ExportEnds.{ExportStarved}
-use Rattle.commands.specs.Ends.ImportEnds.{ImportStarved}
-use Rattle.commands.specs.Ends.RunEnds.{RunStarved}
-use Rattle.commands.specs.Ends.SeekEnds.{SeekStarved}
-use Rattle.commands.specs.Ends.VerifyEnds.{VerifyStarved}
+use Rattle.commands.specs.Ends.CheckEnds.{CheckOutOfMemory}
+use Rattle.commands.specs.Ends.Ends.{EndedOutOfMemory, Usage, Repeated, Ran, Checked, Verified, Sought, Made, Exported, Imported}
+use Rattle.commands.specs.Ends.ExportEnds.{ExportOutOfMemory}
+use Rattle.commands.specs.Ends.ImportEnds.{ImportOutOfMemory}
+use Rattle.commands.specs.Ends.RunEnds.{RunOutOfMemory}
+use Rattle.commands.specs.Ends.SeekEnds.{SeekOutOfMemory}
+use Rattle.commands.specs.Ends.VerifyEnds.{VerifyOutOfMemory}
 use Rattle.commands.specs.ImportPromises.{ImportPromises}
 use Rattle.commands.specs.MakePromises.{MakePromises}
-use Rattle.commands.specs.Outside.{Outside, IsSaid}
+use Rattle.commands.specs.Outside.{Outside, IsLinePrinted}
 use Rattle.commands.specs.Plan.{Plan, no_command, repeats, runs, checks, verifies, resumes, seeks, batches, makes, exports, imports}
 use Rattle.commands.specs.Promises.{IsSomeRecord, Promises, asks_nothing, asks_step, carries_out, inputs_read, records_first, seeks_top, verifies_first}
 use Rattle.commands.specs.Records.{run_order}
-use Rattle.commands.specs.Says.{memory_line, twice_line}
+use Rattle.commands.specs.Messages.{memory_line, twice_line}
 use Rattle.commands.specs.VerifyPromises.{VerifyPromises}
 use Rattle.command_words.specs.Words.{ExportNames, ImportNames, InputNames, MakeNames, RunNames, SeekNames, VerifyNames, repeated_import, repeated_made, repeated_output, seek_inputs}
 use Rattle.auction_cmd.proofs.CheckLemmas.{check-complete, check-counted, check-cut, check-files, check-memory, check-none, check-reading, check-statuses, check-surely, check-unread, check-unwritten}
@@ -73,7 +73,7 @@ module _ (plan : Plan) (before after : Outside) (status : ℕ) (found below : Op
   -- ---- the command that a plan is
 
   ran : (names : RunNames) → Ends plan before after status found below → plan ≡ runs names → RunEnds run_order names before after status found
-  ran names (Starved s still alone) is = RunStarved s
+  ran names (EndedOutOfMemory s still alone) is = RunOutOfMemory s
   ran names (Usage text is_none two none said files still alone) is = cc
   ran names (Repeated name is_name five none said files still alone) is = cc
   ran names (Ran own is_own once end alone) is = subst (λ z. RunEnds run_order z before after status found) (same-runs own names (sym is_own ∙ is)) end
@@ -85,7 +85,7 @@ module _ (plan : Plan) (before after : Outside) (status : ℕ) (found below : Op
   ran names (Imported own is_own valued single end alone) is = cc
 
   once : (names : RunNames) → Ends plan before after status found below → plan ≡ runs names → IsOnce names found
-  once names (Starved s still alone) is = inl s.found_is
+  once names (EndedOutOfMemory s still alone) is = inl s.found_is
   once names (Usage text is_none two none said files still alone) is = inl none
   once names (Repeated name is_name five none said files still alone) is = inl none
   once names (Ran own is_own apart end alone) is = inr (λ result channels transcript. own-names names result channels transcript (subst (λ z. repeated_output z ≡ None) (same-runs own names (sym is_own ∙ is)) apart))
@@ -97,7 +97,7 @@ module _ (plan : Plan) (before after : Outside) (status : ℕ) (found below : Op
   once names (Imported own is_own valued single end alone) is = cc
 
   checked : (names : InputNames) → Ends plan before after status found below → plan ≡ checks names → CheckEnds names before after status found
-  checked names (Starved s still alone) is = CheckStarved s
+  checked names (EndedOutOfMemory s still alone) is = CheckOutOfMemory s
   checked names (Usage text is_none two none said files still alone) is = cc
   checked names (Repeated name is_name five none said files still alone) is = cc
   checked names (Ran own is_own apart end alone) is = cc
@@ -109,7 +109,7 @@ module _ (plan : Plan) (before after : Outside) (status : ℕ) (found below : Op
   checked names (Imported own is_own valued single end alone) is = cc
 
   verified : (names : VerifyNames) → Ends plan before after status found below → plan ≡ verifies names → VerifyEnds names before after status found
-  verified names (Starved s still alone) is = VerifyStarved s
+  verified names (EndedOutOfMemory s still alone) is = VerifyOutOfMemory s
   verified names (Usage text is_none two none said files still alone) is = cc
   verified names (Repeated name is_name five none said files still alone) is = cc
   verified names (Ran own is_own apart end alone) is = cc
@@ -121,7 +121,7 @@ module _ (plan : Plan) (before after : Outside) (status : ℕ) (found below : Op
   verified names (Imported own is_own valued single end alone) is = cc
 
   sought : (names : SeekNames) → Ends plan before after status found below → plan ≡ seeks names → SeekEnds names before after status found below
-  sought names (Starved s still alone) is = SeekStarved s alone
+  sought names (EndedOutOfMemory s still alone) is = SeekOutOfMemory s alone
   sought names (Usage text is_none two none said files still alone) is = cc
   sought names (Repeated name is_name five none said files still alone) is = cc
   sought names (Ran own is_own apart end alone) is = cc
@@ -137,7 +137,7 @@ module _ (plan : Plan) (before after : Outside) (status : ℕ) (found below : Op
   of-verify names end = verify-promises names before after status found end
 
   made : (names : MakeNames) → Ends plan before after status found below → plan ≡ makes names → Reached names before after status found
-  made names (Starved s still alone) is = Nothing s.status_is s.found_is s.files s.line
+  made names (EndedOutOfMemory s still alone) is = Nothing s.status_is s.found_is s.files s.line
   made names (Usage text is_none two none said files still alone) is = cc
   made names (Repeated name is_name five none said files still alone) is = cc
   made names (Ran own is_own apart end alone) is = cc
@@ -150,7 +150,7 @@ module _ (plan : Plan) (before after : Outside) (status : ℕ) (found below : Op
   made names (Imported own is_own valued single end alone) is = cc
 
   exported : (names : ExportNames) → Ends plan before after status found below → plan ≡ exports names → ExportEnds names before after status found
-  exported names (Starved s still alone) is = ExportStarved s
+  exported names (EndedOutOfMemory s still alone) is = ExportOutOfMemory s
   exported names (Usage text is_none two none said files still alone) is = cc
   exported names (Repeated name is_name five none said files still alone) is = cc
   exported names (Ran own is_own apart end alone) is = cc
@@ -162,7 +162,7 @@ module _ (plan : Plan) (before after : Outside) (status : ℕ) (found below : Op
   exported names (Imported own is_own valued single end alone) is = cc
 
   import-ended : (names : ImportNames) → Ends plan before after status found below → plan ≡ imports names → ImportEnds names before after status found
-  import-ended names (Starved s still alone) is = ImportStarved s
+  import-ended names (EndedOutOfMemory s still alone) is = ImportOutOfMemory s
   import-ended names (Usage text is_none two none said files still alone) is = cc
   import-ended names (Repeated name is_name five none said files still alone) is = cc
   import-ended names (Ran own is_own apart end alone) is = cc
@@ -174,7 +174,7 @@ module _ (plan : Plan) (before after : Outside) (status : ℕ) (found below : Op
   import-ended names (Imported own is_own valued single end alone) is = subst (λ z. ImportEnds z before after status found) (same-imports own names (sym is_own ∙ is)) end
 
   import-once : (names : ImportNames) → Ends plan before after status found below → plan ≡ imports names → IsOnceImported names found
-  import-once names (Starved s still alone) is = inl s.found_is
+  import-once names (EndedOutOfMemory s still alone) is = inl s.found_is
   import-once names (Usage text is_none two none said files still alone) is = inl none
   import-once names (Repeated name is_name five none said files still alone) is = inl none
   import-once names (Ran own is_own apart end alone) is = cc
@@ -187,7 +187,7 @@ module _ (plan : Plan) (before after : Outside) (status : ℕ) (found below : Op
 
   -- no step of a live auction is decided by `import`
   import-valued : (names : ImportNames) → Ends plan before after status found below → plan ≡ imports names → status ≡ 0 → names.shown.inputs.owners ≡ None
-  import-valued names (Starved s still alone) is zero = let eight = s.status_is in absurd (omega arith)
+  import-valued names (EndedOutOfMemory s still alone) is zero = let eight = s.status_is in absurd (omega arith)
   import-valued names (Usage text is_none two none said files still alone) is zero = cc
   import-valued names (Repeated name is_name five none said files still alone) is zero = cc
   import-valued names (Ran own is_own apart end alone) is zero = cc
@@ -214,13 +214,13 @@ module _ (plan : Plan) (before after : Outside) (status : ℕ) (found below : Op
       let m : MakePromises names before after status found = make-promises names before after status found w in
       elim (m.unwritten four) [
         | inl unmade ↦ inl unmade.risen
-        | inr unsaid ↦ inr unsaid.failed
+        | inr without_owners ↦ inr without_owners.failed
       ]
 
   -- ---- each way in which the program ends
 
   all-statuses : Ends plan before after status found below → IsTrue (is_in all status)
-  all-statuses (Starved s still alone) = one-of all status 8 s.status_is refl
+  all-statuses (EndedOutOfMemory s still alone) = one-of all status 8 s.status_is refl
   all-statuses (Usage text is two none said files still alone) = one-of all status 2 two refl
   all-statuses (Repeated name is five none said files still alone) = one-of all status 5 five refl
   all-statuses (Ran names is apart end alone) = within (0 ∷ 1 ∷ 3 ∷ 4 ∷ 5 ∷ 6 ∷ 7 ∷ 8 ∷ []) all status refl (run-statuses run_order names before after status found end)
@@ -233,7 +233,7 @@ module _ (plan : Plan) (before after : Outside) (status : ℕ) (found below : Op
 
   -- words that are not a command
   no-plan : Ends plan before after status found below → plan ≡ no_command → (status ≡ 2) ⊎ (status ≡ 8)
-  no-plan (Starved s still alone) none = inr s.status_is
+  no-plan (EndedOutOfMemory s still alone) none = inr s.status_is
   no-plan (Usage text is two absent said files still alone) none = inl two
   no-plan (Repeated name is five absent said files still alone) none = cc (sym is ∙ none)
   no-plan (Ran names is apart end alone) none = cc (sym is ∙ none)
@@ -245,7 +245,7 @@ module _ (plan : Plan) (before after : Outside) (status : ℕ) (found below : Op
   no-plan (Imported names is valued single end alone) none = cc (sym is ∙ none)
 
   only-no_plan : Ends plan before after status found below → status ≡ 2 → plan ≡ no_command
-  only-no_plan (Starved s still alone) two = let eight = s.status_is in absurd (omega arith)
+  only-no_plan (EndedOutOfMemory s still alone) two = let eight = s.status_is in absurd (omega arith)
   only-no_plan (Usage text is is_two none said files still alone) two = is
   only-no_plan (Repeated name is five none said files still alone) two = absurd (omega arith)
   only-no_plan (Ran names is apart end alone) two = absurd (off (0 ∷ 1 ∷ 3 ∷ 4 ∷ 5 ∷ 6 ∷ 7 ∷ 8 ∷ []) status 2 (run-statuses run_order names before after status found end) two refl)
@@ -257,7 +257,7 @@ module _ (plan : Plan) (before after : Outside) (status : ℕ) (found below : Op
   only-no_plan (Imported names is valued single end alone) two = absurd (off (0 ∷ 1 ∷ 3 ∷ 4 ∷ 5 ∷ 8 ∷ 9 ∷ 10 ∷ []) status 2 (import-statuses names before after status found end) two refl)
 
   only-verifies : Ends plan before after status found below → status ≡ 9 → IsTrue (verifies_first plan)
-  only-verifies (Starved s still alone) nine = let eight = s.status_is in absurd (omega arith)
+  only-verifies (EndedOutOfMemory s still alone) nine = let eight = s.status_is in absurd (omega arith)
   only-verifies (Usage text is two none said files still alone) nine = absurd (omega arith)
   only-verifies (Repeated name is five none said files still alone) nine = absurd (omega arith)
   only-verifies (Ran names is apart end alone) nine = absurd (off (0 ∷ 1 ∷ 3 ∷ 4 ∷ 5 ∷ 6 ∷ 7 ∷ 8 ∷ []) status 9 (run-statuses run_order names before after status found end) nine refl)
@@ -269,7 +269,7 @@ module _ (plan : Plan) (before after : Outside) (status : ℕ) (found below : Op
   only-verifies (Imported names is valued single end alone) nine = ap verifies_first is
 
   only-steps : Ends plan before after status found below → status ≡ 10 → IsTrue (asks_step plan)
-  only-steps (Starved s still alone) ten = let eight = s.status_is in absurd (omega arith)
+  only-steps (EndedOutOfMemory s still alone) ten = let eight = s.status_is in absurd (omega arith)
   only-steps (Usage text is two none said files still alone) ten = absurd (omega arith)
   only-steps (Repeated name is five none said files still alone) ten = absurd (omega arith)
   only-steps (Ran names is apart end alone) ten = absurd (off (0 ∷ 1 ∷ 3 ∷ 4 ∷ 5 ∷ 6 ∷ 7 ∷ 8 ∷ []) status 10 (run-statuses run_order names before after status found end) ten refl)
@@ -280,12 +280,12 @@ module _ (plan : Plan) (before after : Outside) (status : ℕ) (found below : Op
   only-steps (Exported names is single end alone) ten = ap asks_step is
   only-steps (Imported names is valued single end alone) ten = ap asks_step is
 
-  named-twice : (name : List ℕ) → Ends plan before after status found below → plan ≡ repeats name → ((status ≡ 5) × IsSaid before after (twice_line name)) ⊎ (status ≡ 8)
-  named-twice name (Starved s still alone) twice = inr s.status_is
+  named-twice : (name : List ℕ) → Ends plan before after status found below → plan ≡ repeats name → ((status ≡ 5) × IsLinePrinted before after (twice_line name)) ⊎ (status ≡ 8)
+  named-twice name (EndedOutOfMemory s still alone) twice = inr s.status_is
   named-twice name (Usage text is two none said files still alone) twice = cc (sym is ∙ twice)
   named-twice name (Repeated own is five none said files still alone) twice =
       let same : own ≡ name = same-name own name (sym is ∙ twice) in
-      inl (five, subst (λ z. IsSaid before after (twice_line z)) same said)
+      inl (five, subst (λ z. IsLinePrinted before after (twice_line z)) same said)
   named-twice name (Ran names is apart end alone) twice = cc (sym is ∙ twice)
   named-twice name (Checked names is end alone) twice = cc (sym is ∙ twice)
   named-twice name (Verified names is end alone) twice = cc (sym is ∙ twice)
@@ -295,7 +295,7 @@ module _ (plan : Plan) (before after : Outside) (status : ℕ) (found below : Op
   named-twice name (Imported names is valued single end alone) twice = cc (sym is ∙ twice)
 
   all-unrecorded : Ends plan before after status found below → IsTrue (is_in (2 ∷ 3 ∷ 5 ∷ 9 ∷ 10 ∷ []) status) → found ≡ None
-  all-unrecorded (Starved s still alone) h = s.found_is
+  all-unrecorded (EndedOutOfMemory s still alone) h = s.found_is
   all-unrecorded (Usage text is two none said files still alone) h = none
   all-unrecorded (Repeated name is five none said files still alone) h = none
   all-unrecorded (Ran names is apart end alone) h = run-unrecorded run_order names before after status found end h
@@ -307,7 +307,7 @@ module _ (plan : Plan) (before after : Outside) (status : ℕ) (found below : Op
   all-unrecorded (Imported names is valued single end alone) h = import-unrecorded names before after status found end h
 
   all-backed : Ends plan before after status found below → MatchOption found ⊤ IsSomeRecord
-  all-backed (Starved s still alone) = absent found s.found_is
+  all-backed (EndedOutOfMemory s still alone) = absent found s.found_is
   all-backed (Usage text is two none said files still alone) = absent found none
   all-backed (Repeated name is five none said files still alone) = absent found none
   all-backed (Ran names is apart end alone) = run-backed run_order names before after status found end
@@ -319,7 +319,7 @@ module _ (plan : Plan) (before after : Outside) (status : ℕ) (found below : Op
   all-backed (Imported names is valued single end alone) = import-backed names before after status found end
 
   all-unread : Ends plan before after status found below → status ≡ 3 → HasRisen before.faults after.faults
-  all-unread (Starved s still alone) three = let eight = s.status_is in absurd (omega arith)
+  all-unread (EndedOutOfMemory s still alone) three = let eight = s.status_is in absurd (omega arith)
   all-unread (Usage text is two none said files still alone) three = absurd (omega arith)
   all-unread (Repeated name is five none said files still alone) three = absurd (omega arith)
   all-unread (Ran names is apart end alone) three = run-unread run_order names before after status found end three
@@ -331,7 +331,7 @@ module _ (plan : Plan) (before after : Outside) (status : ℕ) (found below : Op
   all-unread (Imported names is valued single end alone) three = import-unread names before after status found end three
 
   all-unwritten : Ends plan before after status found below → status ≡ 4 → HasRisen before.faults after.faults ⊎ HasRisen before.cuts after.cuts
-  all-unwritten (Starved s still alone) four = let eight = s.status_is in absurd (omega arith)
+  all-unwritten (EndedOutOfMemory s still alone) four = let eight = s.status_is in absurd (omega arith)
   all-unwritten (Usage text is two none said files still alone) four = absurd (omega arith)
   all-unwritten (Repeated name is five none said files still alone) four = absurd (omega arith)
   all-unwritten (Ran names is apart end alone) four = run-unwritten run_order names before after status found end four
@@ -343,7 +343,7 @@ module _ (plan : Plan) (before after : Outside) (status : ℕ) (found below : Op
   all-unwritten (Imported names is valued single end alone) four = import-unwritten names before after status found end four
 
   all-untouched : Ends plan before after status found below → records_first plan ≡ true → found ≡ None → after.files ≡ before.files
-  all-untouched (Starved s still alone) first none = s.files
+  all-untouched (EndedOutOfMemory s still alone) first none = s.files
   all-untouched (Usage text is two absent said files still alone) first none = files
   all-untouched (Repeated name is five absent said files still alone) first none = files
   all-untouched (Ran names is apart end alone) first none = run-untouched run_order names before after status found end none
@@ -355,7 +355,7 @@ module _ (plan : Plan) (before after : Outside) (status : ℕ) (found below : Op
   all-untouched (Imported names is valued single end alone) first none = import-kept names before after status found end none
 
   all-ended : Ends plan before after status found below → IsTrue (is_in (6 ∷ 7 ∷ []) status) → after.files ≡ before.files
-  all-ended (Starved s still alone) h = s.files
+  all-ended (EndedOutOfMemory s still alone) h = s.files
   all-ended (Usage text is two absent said files still alone) h = files
   all-ended (Repeated name is five absent said files still alone) h = files
   all-ended (Ran names is apart end alone) h = run-ended run_order names before after status found end h
@@ -366,8 +366,8 @@ module _ (plan : Plan) (before after : Outside) (status : ℕ) (found below : Op
   all-ended (Exported names is single end alone) h = absurd (apart-lists (6 ∷ 7 ∷ []) (0 ∷ 3 ∷ 4 ∷ 5 ∷ 8 ∷ 9 ∷ 10 ∷ []) status refl h (export-statuses names before after status found end))
   all-ended (Imported names is valued single end alone) h = absurd (apart-lists (6 ∷ 7 ∷ []) (0 ∷ 1 ∷ 3 ∷ 4 ∷ 5 ∷ 8 ∷ 9 ∷ 10 ∷ []) status refl h (import-statuses names before after status found end))
 
-  all-memory : Ends plan before after status found below → status ≡ 8 → IsSaid before after memory_line
-  all-memory (Starved s still alone) eight = s.line
+  all-memory : Ends plan before after status found below → status ≡ 8 → IsLinePrinted before after memory_line
+  all-memory (EndedOutOfMemory s still alone) eight = s.line
   all-memory (Usage text is two none said files still alone) eight = absurd (omega arith)
   all-memory (Repeated name is five none said files still alone) eight = absurd (omega arith)
   all-memory (Ran names is apart end alone) eight = run-memory run_order names before after status found end eight
@@ -380,7 +380,7 @@ module _ (plan : Plan) (before after : Outside) (status : ℕ) (found below : Op
 
   -- if no command is carried out
   no-folder : Ends plan before after status found below → asks_nothing plan ≡ true → after.faults ≡ before.faults
-  no-folder (Starved s still alone) none = still
+  no-folder (EndedOutOfMemory s still alone) none = still
   no-folder (Usage text is two absent said files still alone) none = still
   no-folder (Repeated name is five absent said files still alone) none = still
   no-folder (Ran names is apart end alone) none = absurd (false≢true (sym (ap asks_nothing is) ∙ none))
@@ -393,7 +393,7 @@ module _ (plan : Plan) (before after : Outside) (status : ℕ) (found below : Op
 
   -- `seek` alone has a second record
   no-other : Ends plan before after status found below → seeks_top plan ≡ false → below ≡ None
-  no-other (Starved s still alone) other = alone
+  no-other (EndedOutOfMemory s still alone) other = alone
   no-other (Usage text is two none said files still alone) other = alone
   no-other (Repeated name is five none said files still alone) other = alone
   no-other (Ran names is apart end alone) other = alone
@@ -427,34 +427,34 @@ read-by (imports own) names before after status found below end is = cc
 -- a record of an auction without an owners' file has no owners
 unsaid-by : (plan : Plan) (names : InputNames) (before after : Outside) (status : ℕ) (found below : Option Record) (files : List StoredFile) → Ends plan before after status found below →
     before.files ≡ Some files → carries_out plan ≡ Some names → names.owners ≡ None → MatchOption found ⊤ (λ rec. rec.scenario.owners ≡ None)
-unsaid-by no_command names before after status found below files end told is none = cc
-unsaid-by (repeats name) names before after status found below files end told is none = cc
-unsaid-by (runs own) names before after status found below files end told is none =
+unsaid-by no_command names before after status found below files end modelled is none = cc
+unsaid-by (repeats name) names before after status found below files end modelled is none = cc
+unsaid-by (runs own) names before after status found below files end modelled is none =
     let same : own.inputs ≡ names = cc in
-    run-unsaid before after status found files run_order own (ran (runs own) before after status found below own end refl) told (ap (λ (n : InputNames). n.owners) same ∙ none)
-unsaid-by (checks own) names before after status found below files end told is none = cc
-unsaid-by (verifies own) names before after status found below files end told is none =
+    run-unsaid before after status found files run_order own (ran (runs own) before after status found below own end refl) modelled (ap (λ (n : InputNames). n.owners) same ∙ none)
+unsaid-by (checks own) names before after status found below files end modelled is none = cc
+unsaid-by (verifies own) names before after status found below files end modelled is none =
     let same : own.inputs ≡ names = cc in
-    verify-unsaid before after status found files own (verified (verifies own) before after status found below own end refl) told (ap (λ (n : InputNames). n.owners) same ∙ none)
-unsaid-by (resumes own) names before after status found below files end told is none = cc
-unsaid-by (seeks own) names before after status found below files end told is none = cc
-unsaid-by (batches own) names before after status found below files end told is none = cc
-unsaid-by (makes own) names before after status found below files end told is none = cc
-unsaid-by (exports own) names before after status found below files end told is none = cc
-unsaid-by (imports own) names before after status found below files end told is none = cc
+    verify-unsaid before after status found files own (verified (verifies own) before after status found below own end refl) modelled (ap (λ (n : InputNames). n.owners) same ∙ none)
+unsaid-by (resumes own) names before after status found below files end modelled is none = cc
+unsaid-by (seeks own) names before after status found below files end modelled is none = cc
+unsaid-by (batches own) names before after status found below files end modelled is none = cc
+unsaid-by (makes own) names before after status found below files end modelled is none = cc
+unsaid-by (exports own) names before after status found below files end modelled is none = cc
+unsaid-by (imports own) names before after status found below files end modelled is none = cc
 
 -- the promises of `check`
-told-check : (files : List StoredFile) (names : InputNames) (before after : Outside) (status : ℕ) (found : Option Record) → CheckEnds names before after status found → before.files ≡ Some files → ToldCheck files names before after status
-told-check files names before after status found end told = record {
-  counted = λ zero. check-counted names before after status found files end told zero;
-  cut = λ four. check-cut names before after status found files end told four;
-  surely_counted = λ room. check-surely names before after status found files end told room;
-  counts = λ inputs held. check-complete names before after status found files inputs end told held;
+told-check : (files : List StoredFile) (names : InputNames) (before after : Outside) (status : ℕ) (found : Option Record) → CheckEnds names before after status found → before.files ≡ Some files → ModelledCheck files names before after status
+told-check files names before after status found end modelled = record {
+  counted = λ zero. check-counted names before after status found files end modelled zero;
+  cut = λ four. check-cut names before after status found files end modelled four;
+  surely_counted = λ room. check-surely names before after status found files end modelled room;
+  counts = λ inputs held. check-complete names before after status found files inputs end modelled held;
 }
 
 check-promises : (names : InputNames) (before after : Outside) (status : ℕ) (found : Option Record) → CheckEnds names before after status found → CheckPromises names before after status found
 check-promises names before after status found end = record {
-  told = λ files told. told-check files names before after status found end told;
+  modelled = λ files modelled. told-check files names before after status found end modelled;
   no_record = check-none names before after status found end;
   never = not-in (0 ∷ 3 ∷ 4 ∷ 5 ∷ 8 ∷ []) (1 ∷ 6 ∷ 7 ∷ 9 ∷ 10 ∷ []) status refl (check-statuses names before after status found end);
 }
@@ -469,12 +469,12 @@ promises-of plan before after status found below end = record {
   backed = all-backed plan before after status found below end;
   unread_says = λ names is three. unread-line names before after status (read-by plan names before after status found below end is) three;
   unrecorded = all-unrecorded plan before after status found below end;
-  refused = λ files names told is five. refused-cause names before after status files (read-by plan names before after status found below end is) told five;
-  refuses = λ files names why told is held. stops-at names before after status files why (read-by plan names before after status found below end is) told held;
+  refused = λ files names modelled is five. refused-cause names before after status files (read-by plan names before after status found below end is) modelled five;
+  refuses = λ files names why modelled is held. stops-at names before after status files why (read-by plan names before after status found below end is) modelled held;
   asked_nothing = no-folder plan before after status found below end;
   unread = all-unread plan before after status found below end;
-  surely_read = λ files names told is steady there. read-there names before after status files (read-by plan names before after status found below end is) told steady there;
-  missing = λ files names input told is steady absent. missing-one names before after status files input (read-by plan names before after status found below end is) told steady absent;
+  surely_read = λ files names modelled is steady there. read-there names before after status files (read-by plan names before after status found below end is) modelled steady there;
+  missing = λ files names input modelled is steady absent. missing-one names before after status files input (read-by plan names before after status found below end is) modelled steady absent;
   unwritten = all-unwritten plan before after status found below end;
   untouched = all-untouched plan before after status found below end;
   unfit_untouched = all-ended plan before after status found below end;
@@ -486,8 +486,8 @@ promises-of plan before after status found below end = record {
   make = λ names is. make-promises names before after status found (made plan before after status found below names end is);
   export = λ names is. export-promises names before after status found (exported plan before after status found below names end is);
   import = λ names is. imported plan before after status found below names end is;
-  unsaid = λ files names told is none. unsaid-by plan names before after status found below files end told is none;
-  verified_live = λ files names owners told is named some. verify-live before after status found files names owners (verified plan before after status found below names end is) told named some;
+  without_owners = λ files names modelled is none. unsaid-by plan names before after status found below files end modelled is none;
+  verified_live = λ files names owners modelled is named some. verify-live before after status found files names owners (verified plan before after status found below names end is) modelled named some;
   verify_only = only-verifies plan before after status found below end;
   proofs_only = only-steps plan before after status found below end;
   memory = all-memory plan before after status found below end;

@@ -11,21 +11,21 @@ use Rattle.auction_core.specs.NotShown.{NotShown, not_kept, not_shown}
 use Rattle.auction_core.specs.Rule.{IsAuction}
 use Rattle.auction_core.proofs.StartShown.{done-fits}
 use Rattle.transcript_text.specs.declared.error.TextErr.{TextErr}
-use Rattle.transcript_text.specs.PrefixReading.{prefix_of, transcript_there}
+use Rattle.transcript_text.specs.PrefixReading.{prefix_of, transcript_prefix}
 use Rattle.transcript_text.specs.Reading.{transcript_of}
 use Rattle.transcript_text.specs.Spelling.{transcript_text}
 use Rattle.transcript_text.proofs.PrefixLaws.{prefix-all}
 use Rattle.transcript_check.specs.Sound.{transcript_record}
-use Rattle.transcript_check.proofs.BeginningLemmas.{any-beginning}
+use Rattle.transcript_check.proofs.PrefixLemmas.{any-beginning}
 use Rattle.transcript_check.proofs.SoundLemmas.{shown-sound}
 use Rattle.transcript_check.proofs.WholeLemmas.{none-other, same-text}
 use Rattle.commands.specs.declared.inputs.Inputs.{Inputs}
 use Rattle.commands.specs.Inputs.{inputs_of}
 use Rattle.commands.specs.Records.{IsRecordIn, StartFits}
-use Rattle.commands.specs.Resumption.{GoesOnFrom, begun, begun_by, kept_or}
+use Rattle.commands.specs.Resume.{ContinuesFrom, begun, kept_prefix, kept_or}
 use Rattle.commands.specs.Verified.{CanBeNamed, record_by, shown_or, verified}
 use Rattle.command_words.specs.Words.{InputNames}
-use Rattle.commands.proofs.ReadAgain.{accepted-auction}
+use Rattle.commands.proofs.RoundTripLemmas.{accepted-auction}
 use Rattle.commands.proofs.ReadingLemmas.{accepted-limits}
 
 -- ---- what is verified
@@ -62,7 +62,7 @@ verified-fits files names inputs text rec is can e =
 -- ---- what is kept
 
 -- what was read and has no fault is continued
-unfaulty : (inputs : Inputs) (r : Result Prefix TextErr) → MatchResult r (λ kept. not_kept inputs.scenario inputs.book kept ≡ None) (λ why. ⊥) → (kept : Prefix) × (begun_by inputs r ≡ Ok kept)
+unfaulty : (inputs : Inputs) (r : Result Prefix TextErr) → MatchResult r (λ kept. not_kept inputs.scenario inputs.book kept ≡ None) (λ why. ⊥) → (kept : Prefix) × (kept_prefix inputs r ≡ Ok kept)
 unfaulty inputs (Ok kept) none = (kept, ap (λ o. kept_or o kept) none)
 unfaulty inputs (Err why) none = absurd none
 
@@ -82,11 +82,11 @@ no-start : {X : Type 0} (shown : Shown) → Some shown ≡ None → X
 no-start shown e = cc
 
 -- all of a complete transcript is kept
-whole-kept : (inputs : Inputs) (text : List ℕ) (t : Transcript) (kept : Prefix) → transcript_of inputs.scenario inputs.book text ≡ Ok t → begun inputs text ≡ Ok kept → transcript_there t true ≡ kept
+whole-kept : (inputs : Inputs) (text : List ℕ) (t : Transcript) (kept : Prefix) → transcript_of inputs.scenario inputs.book text ≡ Ok t → begun inputs text ≡ Ok kept → transcript_prefix t true ≡ kept
 unfolding begun
 whole-kept inputs text t kept read e =
-    let all : begun_by inputs (Ok (transcript_there t true)) ≡ Ok kept = subst (λ r. begun_by inputs r ≡ Ok kept) (prefix-all inputs.scenario inputs.book text t read) e in
-    kept-same (not_kept inputs.scenario inputs.book (transcript_there t true)) (transcript_there t true) kept all
+    let all : kept_prefix inputs (Ok (transcript_prefix t true)) ≡ Ok kept = subst (λ r. kept_prefix inputs r ≡ Ok kept) (prefix-all inputs.scenario inputs.book text t read) e in
+    kept-same (not_kept inputs.scenario inputs.book (transcript_prefix t true)) (transcript_prefix t true) kept all
 
 -- hence the auction continues from it, and its start is kept
 pub whole-begun : (inputs : Inputs) (text : List ℕ) (rec : Record) → verified inputs text ≡ Ok rec → (kept : Prefix) × (begun inputs text ≡ Ok kept)
@@ -95,18 +95,18 @@ whole-begun inputs text rec e = cut-begun inputs text [] rec (subst (λ t. verif
 pub whole-started : {X : Type 0} (inputs : Inputs) (text : List ℕ) (rec : Record) (kept : Prefix) → verified inputs text ≡ Ok rec → begun inputs text ≡ Ok kept → kept.start ≡ None → X
 whole-started inputs text rec kept e ok none =
     let of = of-text inputs text rec e in
-    let same : transcript_there of.transcript true ≡ kept = whole-kept inputs text of.transcript kept of.read ok in
+    let same : transcript_prefix of.transcript true ≡ kept = whole-kept inputs text of.transcript kept of.read ok in
     no-start of.transcript.start (ap (λ (p : Prefix). p.start) same ∙ none)
 
 -- a record that continues a complete transcript is the one that the transcript certifies
-whole-record : (inputs : Inputs) (t : Transcript) (new : Record) → IsAuction inputs.scenario inputs.book → not_shown inputs.scenario inputs.book t ≡ None → GoesOnFrom (transcript_there t true) new → IsRecordIn t.order inputs new → new ≡ transcript_record inputs.scenario inputs.book t
+whole-record : (inputs : Inputs) (t : Transcript) (new : Record) → IsAuction inputs.scenario inputs.book → not_shown inputs.scenario inputs.book t ≡ None → ContinuesFrom (transcript_prefix t true) new → IsRecordIn t.order inputs new → new ≡ transcript_record inputs.scenario inputs.book t
 whole-record inputs t new auction none goes of = none-other inputs.scenario inputs.book t new goes.more auction none of.backed of.ending goes.start goes.steps
 
 few : (n : ℕ) → n < 17 → n < 2 ^ 32
 few n h = omega arith
 
 -- and its text is the transcript's
-pub whole-again : (files : List StoredFile) (names : InputNames) (inputs : Inputs) (text : List ℕ) (rec : Record) (kept : Prefix) (new : Record) → inputs_of files names ≡ Ok inputs → CanBeNamed inputs → verified inputs text ≡ Ok rec → begun inputs text ≡ Ok kept → GoesOnFrom kept new →
+pub whole-again : (files : List StoredFile) (names : InputNames) (inputs : Inputs) (text : List ℕ) (rec : Record) (kept : Prefix) (new : Record) → inputs_of files names ≡ Ok inputs → CanBeNamed inputs → verified inputs text ≡ Ok rec → begun inputs text ≡ Ok kept → ContinuesFrom kept new →
     IsRecordIn new.order inputs new → (new ≡ rec) × (transcript_text inputs.scenario inputs.book new ≡ text)
 whole-again files names inputs text rec kept new is can e ok goes of =
     let it = of-text inputs text rec e in
@@ -114,6 +114,6 @@ whole-again files names inputs text rec kept new is can e ok goes of =
     let auction : IsAuction inputs.scenario inputs.book = accepted-auction files names inputs is can in
     let limits = accepted-limits files names inputs is in
     let most = limits.workers in
-    let whole : GoesOnFrom (transcript_there t true) new = subst (λ p. GoesOnFrom p new) (sym (whole-kept inputs text t kept it.read ok)) goes in
+    let whole : ContinuesFrom (transcript_prefix t true) new = subst (λ p. ContinuesFrom p new) (sym (whole-kept inputs text t kept it.read ok)) goes in
     let shown : new ≡ transcript_record inputs.scenario inputs.book t = whole-record inputs t new auction it.shown whole (subst (λ o. IsRecordIn o inputs new) whole.order of) in
     (shown ∙ it.same, ap (transcript_text inputs.scenario inputs.book) shown ∙ same-text inputs.scenario inputs.book text t (few (length inputs.scenario.workers) (omega arith)) it.read it.shown)

@@ -13,32 +13,32 @@ use Rattle.auction_core.specs.declared.record.Ending.TheVariants.{StartRefuted, 
 use Rattle.auction_core.specs.declared.record.Record.{Record}
 use Rattle.auction_core.specs.Backed.{undecided_of}
 use Rattle.auction_core.specs.NotShown.{order_kept}
-use Rattle.commands.specs.declared.fault.TranscriptFault.{TranscriptFault}
+use Rattle.commands.specs.declared.messages.fault.TranscriptFault.{TranscriptFault}
 use Rattle.commands.specs.declared.inputs.Inputs.{Inputs}
-use Rattle.commands.specs.declared.input_file.Stop.TheVariants.{CannotRead, Refused}
+use Rattle.commands.specs.declared.inputs.input_file.Stop.TheVariants.{CannotRead, Refused}
 use Rattle.command_words.specs.declared.run_words.Input.{Input}
-use Rattle.commands.specs.declared.refusal.Refusal.{Refusal}
+use Rattle.commands.specs.declared.messages.refusal.Refusal.{Refusal}
 use Rattle.transcript_text.specs.Spelling.{transcript_text}
-use Rattle.commands.specs.Delivery.{AllOthersStand, AreStored, named}
+use Rattle.commands.specs.Delivery.{AllOthersUnchanged, AreStored, named}
 use Rattle.commands.specs.Ends.{AreInputsOf, Concludes, IsTextHeld, RunEnds, auction_texts}
 use Rattle.commands.specs.Ends.Concludes.{Unfit, StartOpen, Delivered}
 use Rattle.commands.specs.Ends.IsNotLoaded.{Unloaded, LongText}
 use Rattle.commands.specs.Ends.RunEnds.{Concluded}
-use Rattle.commands.specs.Ends.VerifyEnds.{VerifyStopped, VerifyStarved, NotLoaded}
+use Rattle.commands.specs.Ends.VerifyEnds.{VerifyStopped, VerifyOutOfMemory, NotLoaded}
 use Rattle.commands.specs.Inputs.{inputs_of, transcript_limit}
-use Rattle.commands.specs.Outside.{Outside, IsSaid}
+use Rattle.commands.specs.Outside.{Outside, IsLinePrinted}
 use Rattle.commands.specs.Promises.{IsSomeRecord}
 use Rattle.commands.specs.Records.{IsEndedRecordIn, IsRecordIn, StartFits, StartUnfit, done_status, summary_in}
-use Rattle.commands.specs.Refusals.{refusal_line}
+use Rattle.commands.specs.Refusal.{refusal_line}
 use Rattle.command_words.specs.Words.{name_of}
 use Rattle.commands.specs.ResumeEnds.{ResumeEnds}
-use Rattle.commands.specs.ResumeEnds.ResumeEnds.{ResumeStopped, ResumeStarved, PrefixNotLoaded, NotBegun, WentOn}
+use Rattle.commands.specs.ResumeEnds.ResumeEnds.{ResumeStopped, ResumeOutOfMemory, PrefixNotLoaded, PrefixRejected, Continued}
 use Rattle.auction_cmd.specs.ResumePromises.{IsResumed, ResumePromises}
-use Rattle.commands.specs.Resumption.{GoesOnFrom, begun}
-use Rattle.commands.specs.Says.{long_line, memory_line, unread_line}
+use Rattle.commands.specs.Resume.{ContinuesFrom, begun}
+use Rattle.commands.specs.Messages.{long_line, memory_line, unread_line}
 use Rattle.commands.specs.Verified.{CanBeNamed, fault_line, verified}
-use Rattle.commands.specs.VerifyPromises.{AreAllThere, IsGiven, IsOr}
-use Rattle.command_words.specs.Words.{ResumeNames, RunNames, begun_names, output_names}
+use Rattle.commands.specs.VerifyPromises.{AreAllFilesPresent, IsGiven, IsStatusOr}
+use Rattle.command_words.specs.Words.{ResumeNames, RunNames, resume_input_names, output_names}
 use Rattle.commands.proofs.Halts.{halted-held, not-both, same-inputs, stopped-memory, stopped-statuses}
 use Rattle.commands.proofs.DeliveryLemmas.{Ended, ended-of, for-told}
 use Rattle.commands.proofs.DeliveryLemmas.Ended.{Both, NotSaid, NotStored, OutOfRoom}
@@ -54,10 +54,10 @@ use Rattle.auction_cmd.proofs.VerifyReadings.{all-halted as text-halted, all-mis
 -- ---- two readings of one beginning
 
 -- two readings of the given files are equal
-same-begun : (files : List StoredFile) (names : ResumeNames) (own inputs : Inputs) (t text : List ℕ) → IsGiven files (begun_names names) own t → IsGiven files (begun_names names) inputs text → begun own t ≡ begun inputs text
+same-begun : (files : List StoredFile) (names : ResumeNames) (own inputs : Inputs) (t text : List ℕ) → IsGiven files (resume_input_names names) own t → IsGiven files (resume_input_names names) inputs text → begun own t ≡ begun inputs text
 same-begun files names own inputs t text a b =
     let one : own ≡ inputs = same-inputs own inputs (sym a.accepted ∙ b.accepted) in
-    let other : t ≡ text = same-text t text (sym a.told ∙ b.told) in
+    let other : t ≡ text = same-text t text (sym a.modelled ∙ b.modelled) in
     ap (λ (i : Inputs). begun i t) one ∙ ap (λ z. begun inputs z) other
 
 -- a beginning that is continued has no fault
@@ -82,9 +82,9 @@ module _ (names : ResumeNames) (before after : Outside) (status : ℕ) (found : 
     pub rec : Record
     pub held : AreInputsOf names.run_files.inputs before inputs
     pub named : CanBeNamed inputs
-    pub told : IsTextHeld (begun_names names) before text
+    pub modelled : IsTextHeld (resume_input_names names) before text
     pub sound : begun inputs text ≡ Ok kept
-    pub goes : GoesOnFrom kept rec
+    pub goes : ContinuesFrom kept rec
     pub concludes : Concludes (order_kept kept) names.run_files inputs rec before after status found
 
   -- `resume` ended as a run does
@@ -113,24 +113,24 @@ module _ (names : ResumeNames) (before after : Outside) (status : ℕ) (found : 
   went-found : (w : IsWent) → found ≡ Some w.rec
   went-found w = concluded-found (order_kept w.kept) w.inputs w.rec w.concludes
 
-  went-given : (files : List StoredFile) (w : IsWent) → before.files ≡ Some files → IsGiven files (begun_names names) w.inputs w.text
-  went-given files w told = is-given files (begun_names names) before w.inputs w.text told w.held w.told
+  went-given : (files : List StoredFile) (w : IsWent) → before.files ≡ Some files → IsGiven files (resume_input_names names) w.inputs w.text
+  went-given files w modelled = is-given files (resume_input_names names) before w.inputs w.text modelled w.held w.modelled
 
   -- ---- how far it came
 
   -- `resume` stopped before; the beginning has a fault; or the auction continued
-  data Way : Type 0 where
-    Short : IsTrue (is_in (3 ∷ 5 ∷ 8 ∷ []) status) → found ≡ None → after.files ≡ before.files → Way
-    Denied : status ≡ 9 → found ≡ None → after.files ≡ before.files → Way
-    On : IsWent → Way
+  data Ending : Type 0 where
+    Short : IsTrue (is_in (3 ∷ 5 ∷ 8 ∷ []) status) → found ≡ None → after.files ≡ before.files → Ending
+    Rejected : status ≡ 9 → found ≡ None → after.files ≡ before.files → Ending
+    On : IsWent → Ending
 
-  way : ResumeEnds names before after status found → Way
+  way : ResumeEnds names before after status found → Ending
   way (ResumeStopped s none) = Short (stopped-statuses names.run_files.inputs before after status s) none s.files
-  way (ResumeStarved s) = Short (one-of (3 ∷ 5 ∷ 8 ∷ []) status 8 s.status_is refl) s.found_is s.files
+  way (ResumeOutOfMemory s) = Short (one-of (3 ∷ 5 ∷ 8 ∷ []) status 8 s.status_is refl) s.found_is s.files
   way (PrefixNotLoaded inputs are n none same) = Short (within (3 ∷ 5 ∷ []) (3 ∷ 5 ∷ 8 ∷ []) status refl (unloaded-statuses names.prefix before after status n)) none same
-  way (NotBegun inputs text fault are can held is nine none said same) = Denied nine none same
-  way (WentOn inputs text kept rec are can held is goes c) =
-      On (record { inputs = inputs; text = text; kept = kept; rec = rec; held = are; named = can; told = held; sound = is; goes = goes; concludes = c })
+  way (PrefixRejected inputs text fault are can held is nine none said same) = Rejected nine none same
+  way (Continued inputs text kept rec are can held is goes c) =
+      On (record { inputs = inputs; text = text; kept = kept; rec = rec; held = are; named = can; modelled = held; sound = is; goes = goes; concludes = c })
 
   no-record : {X : Type 0} → found ≡ None → IsSome found → X
   no-record none some = absurd (true≢false (sym some ∙ ap is_some none))
@@ -139,17 +139,17 @@ module _ (names : ResumeNames) (before after : Outside) (status : ℕ) (found : 
   by-record : ResumeEnds names before after status found → IsSome found → IsWent
   by-record end some = go (way end)
     where
-      go : Way → IsWent
+      go : Ending → IsWent
       go (Short s none same) = no-record none some
-      go (Denied nine none same) = no-record none some
+      go (Rejected nine none same) = no-record none some
       go (On w) = w
 
   went : ResumeEnds names before after status found → IsTrue (is_in (0 ∷ 1 ∷ 4 ∷ 6 ∷ 7 ∷ []) status) → IsWent
   went end h = go (way end)
     where
-      go : Way → IsWent
+      go : Ending → IsWent
       go (Short s none same) = absurd (apart-lists (0 ∷ 1 ∷ 4 ∷ 6 ∷ 7 ∷ []) (3 ∷ 5 ∷ 8 ∷ []) status refl h s)
-      go (Denied nine none same) = absurd (off (0 ∷ 1 ∷ 4 ∷ 6 ∷ 7 ∷ []) status 9 h nine refl)
+      go (Rejected nine none same) = absurd (off (0 ∷ 1 ∷ 4 ∷ 6 ∷ 7 ∷ []) status 9 h nine refl)
       go (On w) = w
 
   at-one : (n : ℕ) → ResumeEnds names before after status found → status ≡ n → IsTrue (is_in (0 ∷ 1 ∷ 4 ∷ 6 ∷ 7 ∷ []) n) → IsWent
@@ -158,9 +158,9 @@ module _ (names : ResumeNames) (before after : Outside) (status : ℕ) (found : 
   all-statuses : ResumeEnds names before after status found → IsTrue (is_in (0 ∷ 1 ∷ 3 ∷ 4 ∷ 5 ∷ 6 ∷ 7 ∷ 8 ∷ 9 ∷ []) status)
   all-statuses end = go (way end)
     where
-      go : Way → IsTrue (is_in (0 ∷ 1 ∷ 3 ∷ 4 ∷ 5 ∷ 6 ∷ 7 ∷ 8 ∷ 9 ∷ []) status)
+      go : Ending → IsTrue (is_in (0 ∷ 1 ∷ 3 ∷ 4 ∷ 5 ∷ 6 ∷ 7 ∷ 8 ∷ 9 ∷ []) status)
       go (Short s none same) = within (3 ∷ 5 ∷ 8 ∷ []) (0 ∷ 1 ∷ 3 ∷ 4 ∷ 5 ∷ 6 ∷ 7 ∷ 8 ∷ 9 ∷ []) status refl s
-      go (Denied nine none same) = one-of (0 ∷ 1 ∷ 3 ∷ 4 ∷ 5 ∷ 6 ∷ 7 ∷ 8 ∷ 9 ∷ []) status 9 nine refl
+      go (Rejected nine none same) = one-of (0 ∷ 1 ∷ 3 ∷ 4 ∷ 5 ∷ 6 ∷ 7 ∷ 8 ∷ 9 ∷ []) status 9 nine refl
       go (On w) = within (0 ∷ 1 ∷ 4 ∷ 6 ∷ 7 ∷ 8 ∷ []) (0 ∷ 1 ∷ 3 ∷ 4 ∷ 5 ∷ 6 ∷ 7 ∷ 8 ∷ 9 ∷ []) status refl (went-statuses w)
 
   -- ---- the record
@@ -171,22 +171,22 @@ module _ (names : ResumeNames) (before after : Outside) (status : ℕ) (found : 
   all-backed : ResumeEnds names before after status found → MatchOption found ⊤ IsSomeRecord
   all-backed end = go (way end)
     where
-      go : Way → MatchOption found ⊤ IsSomeRecord
+      go : Ending → MatchOption found ⊤ IsSomeRecord
       go (Short s none same) = absent found none
-      go (Denied nine none same) = absent found none
+      go (Rejected nine none same) = absent found none
       go (On w) = run-backed (order_kept w.kept) names.run_files before after status found (as-run w)
 
   all-unrecorded : ResumeEnds names before after status found → IsTrue (is_in (3 ∷ 5 ∷ 9 ∷ []) status) → found ≡ None
   all-unrecorded end h = go (way end)
     where
-      go : Way → found ≡ None
+      go : Ending → found ≡ None
       go (Short s none same) = none
-      go (Denied nine none same) = none
+      go (Rejected nine none same) = none
       go (On w) = absurd (apart-lists (3 ∷ 5 ∷ 9 ∷ []) (0 ∷ 1 ∷ 4 ∷ 6 ∷ 7 ∷ 8 ∷ []) status refl h (went-statuses w))
 
   -- ---- an auction that ended at its start
 
-  unstarted : (order : Order) (inputs : Inputs) (text : List ℕ) (kept : Prefix) (rec : Record) → begun inputs text ≡ Ok kept → GoesOnFrom kept rec → Concludes order names.run_files inputs rec before after status found →
+  unstarted : (order : Order) (inputs : Inputs) (text : List ℕ) (kept : Prefix) (rec : Record) → begun inputs text ≡ Ok kept → ContinuesFrom kept rec → Concludes order names.run_files inputs rec before after status found →
       IsTrue (is_in (6 ∷ 7 ∷ []) status) → kept.start ≡ None
   unstarted order inputs text kept rec is goes (Unfit of six some said same) h = no-verdict inputs text kept rec order StartRefuted is goes of.backed of.ending (λ e. cc)
   unstarted order inputs text kept rec is goes (StartOpen of seven some said same) h = no-verdict inputs text kept rec order StartUndecided is goes of.backed of.ending (λ e. cc)
@@ -202,7 +202,7 @@ module _ (names : ResumeNames) (before after : Outside) (status : ℕ) (found : 
     inputs = w.inputs;
     accepted = w.held;
     text = w.text;
-    held = w.told;
+    held = w.modelled;
     kept = w.kept;
     sound = w.sound;
     rec = w.rec;
@@ -218,79 +218,79 @@ module _ (names : ResumeNames) (before after : Outside) (status : ℕ) (found : 
 
   -- `resume` stopped because memory ran out or by a fault of the outside; the beginning has a fault; or the auction continued
   data GivenWay (inputs : Inputs) (text : List ℕ) : Type 0 where
-    Failed : ((n : ℕ) → IsOr n before status) → GivenWay inputs text
-    AtFault : (fault : TranscriptFault) → begun inputs text ≡ Err fault → status ≡ 9 → GivenWay inputs text
+    Failed : ((n : ℕ) → IsStatusOr n before status) → GivenWay inputs text
+    IsInvalid : (fault : TranscriptFault) → begun inputs text ≡ Err fault → status ≡ 9 → GivenWay inputs text
     GoneOn : IsWent → GivenWay inputs text
 
-  given-way : (files : List StoredFile) (inputs : Inputs) (text : List ℕ) → ResumeEnds names before after status found → before.files ≡ Some files → IsGiven files (begun_names names) inputs text → GivenWay inputs text
-  given-way files inputs text (ResumeStopped s none) told g = Failed (λ n. halted-held names.run_files.inputs before after status n files inputs s told g.accepted)
-  given-way files inputs text (ResumeStarved s) told g = Failed (λ n. inr (inl s.status_is))
-  given-way files inputs text (PrefixNotLoaded own are (Unloaded three rises gone said) none same) told g = Failed (λ n. inr (inr (three, λ steady. no-text text (bytes_of files names.prefix) (gone files told steady) g.told)))
-  given-way files inputs text (PrefixNotLoaded own are (LongText five long said) none same) told g =
-      let (bytes, is, more) = long files told in
-      absurd (not-long files (begun_names names) inputs text bytes g is more)
-  given-way files inputs text (NotBegun own t fault are can held is nine none said same) told g =
-      AtFault fault (sym (same-begun files names own inputs t text (is-given files (begun_names names) before own t told are held) g) ∙ is) nine
-  given-way files inputs text (WentOn own t kept rec are can held is goes c) told g =
-      GoneOn (record { inputs = own; text = t; kept = kept; rec = rec; held = are; named = can; told = held; sound = is; goes = goes; concludes = c })
+  given-way : (files : List StoredFile) (inputs : Inputs) (text : List ℕ) → ResumeEnds names before after status found → before.files ≡ Some files → IsGiven files (resume_input_names names) inputs text → GivenWay inputs text
+  given-way files inputs text (ResumeStopped s none) modelled g = Failed (λ n. halted-held names.run_files.inputs before after status n files inputs s modelled g.accepted)
+  given-way files inputs text (ResumeOutOfMemory s) modelled g = Failed (λ n. inr (inl s.status_is))
+  given-way files inputs text (PrefixNotLoaded own are (Unloaded three rises gone said) none same) modelled g = Failed (λ n. inr (inr (three, λ steady. no-text text (bytes_of files names.prefix) (gone files modelled steady) g.modelled)))
+  given-way files inputs text (PrefixNotLoaded own are (LongText five long said) none same) modelled g =
+      let (bytes, is, more) = long files modelled in
+      absurd (not-long files (resume_input_names names) inputs text bytes g is more)
+  given-way files inputs text (PrefixRejected own t fault are can held is nine none said same) modelled g =
+      IsInvalid fault (sym (same-begun files names own inputs t text (is-given files (resume_input_names names) before own t modelled are held) g) ∙ is) nine
+  given-way files inputs text (Continued own t kept rec are can held is goes c) modelled g =
+      GoneOn (record { inputs = own; text = t; kept = kept; rec = rec; held = are; named = can; modelled = held; sound = is; goes = goes; concludes = c })
 
   -- what was continued is what is given
-  went-same : (files : List StoredFile) (inputs : Inputs) (text : List ℕ) (w : IsWent) → before.files ≡ Some files → IsGiven files (begun_names names) inputs text → begun w.inputs w.text ≡ begun inputs text
-  went-same files inputs text w told g = same-begun files names w.inputs inputs w.text text (went-given files w told) g
+  went-same : (files : List StoredFile) (inputs : Inputs) (text : List ℕ) (w : IsWent) → before.files ≡ Some files → IsGiven files (resume_input_names names) inputs text → begun w.inputs w.text ≡ begun inputs text
+  went-same files inputs text w modelled g = same-begun files names w.inputs inputs w.text text (went-given files w modelled) g
 
-  all-unfits : (files : List StoredFile) (inputs : Inputs) (text : List ℕ) (kept : Prefix) → ResumeEnds names before after status found → before.files ≡ Some files → IsGiven files (begun_names names) inputs text → begun inputs text ≡ Ok kept → StartUnfit inputs →
-      IsOr 6 before status ⊎ (status ≡ 7)
-  all-unfits files inputs text kept end told g ok unfit = go (given-way files inputs text end told g)
+  all-unfits : (files : List StoredFile) (inputs : Inputs) (text : List ℕ) (kept : Prefix) → ResumeEnds names before after status found → before.files ≡ Some files → IsGiven files (resume_input_names names) inputs text → begun inputs text ≡ Ok kept → StartUnfit inputs →
+      IsStatusOr 6 before status ⊎ (status ≡ 7)
+  all-unfits files inputs text kept end modelled g ok unfit = go (given-way files inputs text end modelled g)
     where
-      go : GivenWay inputs text → IsOr 6 before status ⊎ (status ≡ 7)
+      go : GivenWay inputs text → IsStatusOr 6 before status ⊎ (status ≡ 7)
       go (Failed f) = inl (f 6)
-      go (AtFault fault err nine) = not-both-begun kept fault (begun inputs text) ok err
-      go (GoneOn w) = run-unfits (order_kept w.kept) names.run_files before after status found files inputs (as-run w) told g.accepted unfit
+      go (IsInvalid fault err nine) = not-both-begun kept fault (begun inputs text) ok err
+      go (GoneOn w) = run-unfits (order_kept w.kept) names.run_files before after status found files inputs (as-run w) modelled g.accepted unfit
 
-  all-refuses : (files : List StoredFile) (inputs : Inputs) (text : List ℕ) (fault : TranscriptFault) → ResumeEnds names before after status found → before.files ≡ Some files → IsGiven files (begun_names names) inputs text → begun inputs text ≡ Err fault →
-      IsOr 9 before status
-  all-refuses files inputs text fault end told g err = go (given-way files inputs text end told g)
+  all-refuses : (files : List StoredFile) (inputs : Inputs) (text : List ℕ) (fault : TranscriptFault) → ResumeEnds names before after status found → before.files ≡ Some files → IsGiven files (resume_input_names names) inputs text → begun inputs text ≡ Err fault →
+      IsStatusOr 9 before status
+  all-refuses files inputs text fault end modelled g err = go (given-way files inputs text end modelled g)
     where
-      go : GivenWay inputs text → IsOr 9 before status
+      go : GivenWay inputs text → IsStatusOr 9 before status
       go (Failed f) = f 9
-      go (AtFault own is nine) = inl nine
-      go (GoneOn w) = not-both-begun w.kept fault (begun w.inputs w.text) w.sound (went-same files inputs text w told g ∙ err)
+      go (IsInvalid own is nine) = inl nine
+      go (GoneOn w) = not-both-begun w.kept fault (begun w.inputs w.text) w.sound (went-same files inputs text w modelled g ∙ err)
 
-  all-complete : (files : List StoredFile) (inputs : Inputs) (text : List ℕ) (kept : Prefix) → ResumeEnds names before after status found → before.files ≡ Some files → IsGiven files (begun_names names) inputs text → begun inputs text ≡ Ok kept → StartFits inputs →
-      IsOr 0 before status ⊎ IsTrue (is_in (1 ∷ 4 ∷ 7 ∷ []) status)
-  all-complete files inputs text kept end told g ok fit = go (given-way files inputs text end told g)
+  all-complete : (files : List StoredFile) (inputs : Inputs) (text : List ℕ) (kept : Prefix) → ResumeEnds names before after status found → before.files ≡ Some files → IsGiven files (resume_input_names names) inputs text → begun inputs text ≡ Ok kept → StartFits inputs →
+      IsStatusOr 0 before status ⊎ IsTrue (is_in (1 ∷ 4 ∷ 7 ∷ []) status)
+  all-complete files inputs text kept end modelled g ok fit = go (given-way files inputs text end modelled g)
     where
-      go : GivenWay inputs text → IsOr 0 before status ⊎ IsTrue (is_in (1 ∷ 4 ∷ 7 ∷ []) status)
+      go : GivenWay inputs text → IsStatusOr 0 before status ⊎ IsTrue (is_in (1 ∷ 4 ∷ 7 ∷ []) status)
       go (Failed f) = inl (f 0)
-      go (AtFault fault err nine) = not-both-begun kept fault (begun inputs text) ok err
-      go (GoneOn w) = run-complete (order_kept w.kept) names.run_files before after status found files inputs (as-run w) told g.accepted fit
+      go (IsInvalid fault err nine) = not-both-begun kept fault (begun inputs text) ok err
+      go (GoneOn w) = run-complete (order_kept w.kept) names.run_files before after status found files inputs (as-run w) modelled g.accepted fit
 
   -- the beginning of any sound transcript
-  all-any_cut : (files : List StoredFile) (inputs : Inputs) (text behind : List ℕ) (rec : Record) → ResumeEnds names before after status found → before.files ≡ Some files → IsGiven files (begun_names names) inputs text → verified inputs (text ++ behind) ≡ Ok rec →
-      IsOr 0 before status ⊎ IsTrue (is_in (1 ∷ 4 ∷ 7 ∷ []) status)
-  all-any_cut files inputs text behind rec end told g e = go (given-way files inputs text end told g)
+  all-any_cut : (files : List StoredFile) (inputs : Inputs) (text behind : List ℕ) (rec : Record) → ResumeEnds names before after status found → before.files ≡ Some files → IsGiven files (resume_input_names names) inputs text → verified inputs (text ++ behind) ≡ Ok rec →
+      IsStatusOr 0 before status ⊎ IsTrue (is_in (1 ∷ 4 ∷ 7 ∷ []) status)
+  all-any_cut files inputs text behind rec end modelled g e = go (given-way files inputs text end modelled g)
     where
       cut : (kept : Prefix) × (begun inputs text ≡ Ok kept)
       cut = cut-begun inputs text behind rec e
 
-      go : GivenWay inputs text → IsOr 0 before status ⊎ IsTrue (is_in (1 ∷ 4 ∷ 7 ∷ []) status)
+      go : GivenWay inputs text → IsStatusOr 0 before status ⊎ IsTrue (is_in (1 ∷ 4 ∷ 7 ∷ []) status)
       go (Failed f) = inl (f 0)
-      go (AtFault fault err nine) = not-both-begun cut.0 fault (begun inputs text) cut.1 err
+      go (IsInvalid fault err nine) = not-both-begun cut.0 fault (begun inputs text) cut.1 err
       go (GoneOn w) =
-          let one : w.inputs ≡ inputs = same-inputs w.inputs inputs (sym (w.held files told) ∙ g.accepted) in
+          let one : w.inputs ≡ inputs = same-inputs w.inputs inputs (sym (w.held files modelled) ∙ g.accepted) in
           let fit : StartFits inputs = verified-fits files names.run_files.inputs inputs (text ++ behind) rec g.accepted (subst CanBeNamed one w.named) e in
-          run-complete (order_kept w.kept) names.run_files before after status found files inputs (as-run w) told g.accepted fit
+          run-complete (order_kept w.kept) names.run_files before after status found files inputs (as-run w) modelled g.accepted fit
 
   -- a complete sound transcript ends as it verifies
-  all-whole_done : (files : List StoredFile) (inputs : Inputs) (text : List ℕ) (rec : Record) → ResumeEnds names before after status found → before.files ≡ Some files → IsGiven files (begun_names names) inputs text → verified inputs text ≡ Ok rec →
-      IsOr (done_status (undecided_of rec.steps)) before status ⊎ (status ≡ 4)
-  all-whole_done files inputs text rec end told g e = go (given-way files inputs text end told g)
+  all-whole_done : (files : List StoredFile) (inputs : Inputs) (text : List ℕ) (rec : Record) → ResumeEnds names before after status found → before.files ≡ Some files → IsGiven files (resume_input_names names) inputs text → verified inputs text ≡ Ok rec →
+      IsStatusOr (done_status (undecided_of rec.steps)) before status ⊎ (status ≡ 4)
+  all-whole_done files inputs text rec end modelled g e = go (given-way files inputs text end modelled g)
     where
       one : (w : IsWent) → w.inputs ≡ inputs
-      one w = same-inputs w.inputs inputs (sym (w.held files told) ∙ g.accepted)
+      one w = same-inputs w.inputs inputs (sym (w.held files modelled) ∙ g.accepted)
 
       ok : (w : IsWent) → begun inputs text ≡ Ok w.kept
-      ok w = sym (went-same files inputs text w told g) ∙ w.sound
+      ok w = sym (went-same files inputs text w modelled g) ∙ w.sound
 
       shown : (w : IsWent) → IsRecordIn (order_kept w.kept) w.inputs w.rec → w.rec ≡ rec
       shown w of =
@@ -299,13 +299,13 @@ module _ (names : ResumeNames) (before after : Outside) (status : ℕ) (found : 
           again.0
 
       last : (w : IsWent) → w.rec ≡ rec → Ended (auction_texts (order_kept w.kept) names.run_files w.inputs w.rec) (summary_in (order_kept w.kept) w.inputs (undecided_of w.rec.steps)) (done_status (undecided_of w.rec.steps)) before after status →
-          IsOr (done_status (undecided_of rec.steps)) before status ⊎ (status ≡ 4)
+          IsStatusOr (done_status (undecided_of rec.steps)) before status ⊎ (status ≡ 4)
       last w same (Both done all writes) = inl (inl (done ∙ ap (λ (r : Record). done_status (undecided_of r.steps)) same))
       last w same (NotSaid four all rises less said) = inr four
       last w same (NotStored x four part rises unsteady said) = inr four
       last w same (OutOfRoom x eight part said) = inl (inr (inl eight))
 
-      by : (w : IsWent) → Concludes (order_kept w.kept) names.run_files w.inputs w.rec before after status found → IsOr (done_status (undecided_of rec.steps)) before status ⊎ (status ≡ 4)
+      by : (w : IsWent) → Concludes (order_kept w.kept) names.run_files w.inputs w.rec before after status found → IsStatusOr (done_status (undecided_of rec.steps)) before status ⊎ (status ≡ 4)
       by w (Unfit of six some said same) =
           let fit : StartFits inputs = verified-fits files names.run_files.inputs inputs text rec g.accepted (subst CanBeNamed (one w) w.named) e in
           absurd (true≢false (sym fit ∙ subst (λ (z : Inputs). fits z.book (start_set z.scenario) ≡ false) (one w) of.starts))
@@ -313,23 +313,23 @@ module _ (names : ResumeNames) (before after : Outside) (status : ℕ) (found : 
           absurd (whole-started inputs text rec w.kept e (ok w) (went-unstarted w (one-of (6 ∷ 7 ∷ []) status 7 seven refl)))
       by w (Delivered of can held some d) = last w (shown w of) (ended-of _ _ _ before after status d)
 
-      go : GivenWay inputs text → IsOr (done_status (undecided_of rec.steps)) before status ⊎ (status ≡ 4)
+      go : GivenWay inputs text → IsStatusOr (done_status (undecided_of rec.steps)) before status ⊎ (status ≡ 4)
       go (Failed f) = inl (f (done_status (undecided_of rec.steps)))
-      go (AtFault fault err nine) =
+      go (IsInvalid fault err nine) =
           let kept = whole-begun inputs text rec e in
           not-both-begun kept.0 fault (begun inputs text) kept.1 err
       go (GoneOn w) = by w w.concludes
 
   -- and its record and its text are the same again
-  all-whole : (files : List StoredFile) (inputs : Inputs) (text : List ℕ) (rec : Record) → ResumeEnds names before after status found → IsOnce names.run_files found → before.files ≡ Some files → IsGiven files (begun_names names) inputs text → verified inputs text ≡ Ok rec →
+  all-whole : (files : List StoredFile) (inputs : Inputs) (text : List ℕ) (rec : Record) → ResumeEnds names before after status found → IsOnce names.run_files found → before.files ≡ Some files → IsGiven files (resume_input_names names) inputs text → verified inputs text ≡ Ok rec →
       IsTrue (is_in (0 ∷ 1 ∷ []) status) → (found ≡ Some rec) × MatchOption after.files ⊥ (λ new. bytes_of new names.run_files.transcript ≡ Some text)
-  all-whole files inputs text rec end once told g e h =
+  all-whole files inputs text rec end once modelled g e h =
       let w = went end (within (0 ∷ 1 ∷ []) (0 ∷ 1 ∷ 4 ∷ 6 ∷ 7 ∷ []) status refl h) in
-      let d = run-done (order_kept w.kept) names.run_files before after status found files (as-run w) once told h in
+      let d = run-done (order_kept w.kept) names.run_files before after status found files (as-run w) once modelled h in
       let one : inputs ≡ d.inputs = same-inputs inputs d.inputs (sym g.accepted ∙ d.accepted) in
-      let goes : GoesOnFrom w.kept d.rec = subst (λ r. GoesOnFrom w.kept r) (some-same w.rec d.rec (sym (went-found w) ∙ d.recorded)) w.goes in
-      let can : CanBeNamed d.inputs = subst CanBeNamed (same-inputs w.inputs d.inputs (sym (w.held files told) ∙ d.accepted)) w.named in
-      let ok : begun inputs text ≡ Ok w.kept = sym (went-same files inputs text w told g) ∙ w.sound in
+      let goes : ContinuesFrom w.kept d.rec = subst (λ r. ContinuesFrom w.kept r) (some-same w.rec d.rec (sym (went-found w) ∙ d.recorded)) w.goes in
+      let can : CanBeNamed d.inputs = subst CanBeNamed (same-inputs w.inputs d.inputs (sym (w.held files modelled) ∙ d.accepted)) w.named in
+      let ok : begun inputs text ≡ Ok w.kept = sym (went-same files inputs text w modelled g) ∙ w.sound in
       let again = whole-again files names.run_files.inputs d.inputs text rec w.kept d.rec d.accepted can
       (subst (λ (i : Inputs). verified i text ≡ Ok rec) one e)
       (subst (λ (i : Inputs). begun i text ≡ Ok w.kept) one ok) goes
@@ -340,12 +340,12 @@ module _ (names : ResumeNames) (before after : Outside) (status : ℕ) (found : 
       )
 
   all-refused : (files : List StoredFile) → ResumeEnds names before after status found → before.files ≡ Some files → status ≡ 9 →
-      (inputs : Inputs) × (text : List ℕ) × IsGiven files (begun_names names) inputs text × (fault : TranscriptFault) × (begun inputs text ≡ Err fault) × IsSaid before after (fault_line names.prefix fault)
-  all-refused files (ResumeStopped s none) told nine = absurd (off (3 ∷ 5 ∷ 8 ∷ []) status 9 (stopped-statuses names.run_files.inputs before after status s) nine refl)
-  all-refused files (ResumeStarved s) told nine = let eight = s.status_is in absurd (omega arith)
-  all-refused files (PrefixNotLoaded inputs are n none same) told nine = absurd (off (3 ∷ 5 ∷ []) status 9 (unloaded-statuses names.prefix before after status n) nine refl)
-  all-refused files (NotBegun inputs text fault are can held is is_nine none said same) told nine = (inputs, text, is-given files (begun_names names) before inputs text told are held, fault, is, said)
-  all-refused files (WentOn inputs text kept rec are can held is goes c) told nine = absurd (off (0 ∷ 1 ∷ 4 ∷ 6 ∷ 7 ∷ 8 ∷ []) status 9 (concluded-statuses (order_kept kept) inputs rec c) nine refl)
+      (inputs : Inputs) × (text : List ℕ) × IsGiven files (resume_input_names names) inputs text × (fault : TranscriptFault) × (begun inputs text ≡ Err fault) × IsLinePrinted before after (fault_line names.prefix fault)
+  all-refused files (ResumeStopped s none) modelled nine = absurd (off (3 ∷ 5 ∷ 8 ∷ []) status 9 (stopped-statuses names.run_files.inputs before after status s) nine refl)
+  all-refused files (ResumeOutOfMemory s) modelled nine = let eight = s.status_is in absurd (omega arith)
+  all-refused files (PrefixNotLoaded inputs are n none same) modelled nine = absurd (off (3 ∷ 5 ∷ []) status 9 (unloaded-statuses names.prefix before after status n) nine refl)
+  all-refused files (PrefixRejected inputs text fault are can held is is_nine none said same) modelled nine = (inputs, text, is-given files (resume_input_names names) before inputs text modelled are held, fault, is, said)
+  all-refused files (Continued inputs text kept rec are can held is goes c) modelled nine = absurd (off (0 ∷ 1 ∷ 4 ∷ 6 ∷ 7 ∷ 8 ∷ []) status 9 (concluded-statuses (order_kept kept) inputs rec c) nine refl)
 
   -- ---- what was not read
 
@@ -353,103 +353,103 @@ module _ (names : ResumeNames) (before after : Outside) (status : ℕ) (found : 
   concluded-off order inputs rec n c is out = absurd (off (0 ∷ 1 ∷ 4 ∷ 6 ∷ 7 ∷ 8 ∷ []) status n (concluded-statuses order inputs rec c) is out)
 
   all-halted : (files : List StoredFile) → ResumeEnds names before after status found → before.files ≡ Some files → status ≡ 5 →
-      ((why : Refusal) × (inputs_of files names.run_files.inputs ≡ Err (Refused why)) × IsSaid before after (refusal_line names.run_files.inputs why))
+      ((why : Refusal) × (inputs_of files names.run_files.inputs ≡ Err (Refused why)) × IsLinePrinted before after (refusal_line names.run_files.inputs why))
       ⊎ ((inputs : Inputs) × (inputs_of files names.run_files.inputs ≡ Ok inputs) × (bytes : List ℕ) × (bytes_of files names.prefix ≡ Some bytes)
-      × (transcript_limit < length bytes) × IsSaid before after (long_line names.prefix))
-  all-halted files (ResumeStopped s none) told five = text-halted (begun_names names) before after status found files (VerifyStopped s none) told five
-  all-halted files (ResumeStarved s) told five = text-halted (begun_names names) before after status found files (VerifyStarved s) told five
-  all-halted files (PrefixNotLoaded inputs are n none same) told five = text-halted (begun_names names) before after status found files (NotLoaded inputs are n none same) told five
-  all-halted files (NotBegun inputs text fault are can held is nine none said same) told five = absurd (omega arith)
-  all-halted files (WentOn inputs text kept rec are can held is goes c) told five = concluded-off (order_kept kept) inputs rec 5 c five refl
+      × (transcript_limit < length bytes) × IsLinePrinted before after (long_line names.prefix))
+  all-halted files (ResumeStopped s none) modelled five = text-halted (resume_input_names names) before after status found files (VerifyStopped s none) modelled five
+  all-halted files (ResumeOutOfMemory s) modelled five = text-halted (resume_input_names names) before after status found files (VerifyOutOfMemory s) modelled five
+  all-halted files (PrefixNotLoaded inputs are n none same) modelled five = text-halted (resume_input_names names) before after status found files (NotLoaded inputs are n none same) modelled five
+  all-halted files (PrefixRejected inputs text fault are can held is nine none said same) modelled five = absurd (omega arith)
+  all-halted files (Continued inputs text kept rec are can held is goes c) modelled five = concluded-off (order_kept kept) inputs rec 5 c five refl
 
-  all-refuses_input : (files : List StoredFile) (why : Refusal) → ResumeEnds names before after status found → before.files ≡ Some files → inputs_of files names.run_files.inputs ≡ Err (Refused why) → IsOr 5 before status
-  all-refuses_input files why (ResumeStopped s none) told err = text-refuses_input (begun_names names) before after status found files why (VerifyStopped s none) told err
-  all-refuses_input files why (ResumeStarved s) told err = inr (inl s.status_is)
-  all-refuses_input files why (PrefixNotLoaded inputs are n none same) told err = absurd (not-both inputs (Refused why) (sym (are files told) ∙ err))
-  all-refuses_input files why (NotBegun inputs text fault are can held is nine none said same) told err = absurd (not-both inputs (Refused why) (sym (are files told) ∙ err))
-  all-refuses_input files why (WentOn inputs text kept rec are can held is goes c) told err = absurd (not-both inputs (Refused why) (sym (are files told) ∙ err))
+  all-refuses_input : (files : List StoredFile) (why : Refusal) → ResumeEnds names before after status found → before.files ≡ Some files → inputs_of files names.run_files.inputs ≡ Err (Refused why) → IsStatusOr 5 before status
+  all-refuses_input files why (ResumeStopped s none) modelled err = text-refuses_input (resume_input_names names) before after status found files why (VerifyStopped s none) modelled err
+  all-refuses_input files why (ResumeOutOfMemory s) modelled err = inr (inl s.status_is)
+  all-refuses_input files why (PrefixNotLoaded inputs are n none same) modelled err = absurd (not-both inputs (Refused why) (sym (are files modelled) ∙ err))
+  all-refuses_input files why (PrefixRejected inputs text fault are can held is nine none said same) modelled err = absurd (not-both inputs (Refused why) (sym (are files modelled) ∙ err))
+  all-refuses_input files why (Continued inputs text kept rec are can held is goes c) modelled err = absurd (not-both inputs (Refused why) (sym (are files modelled) ∙ err))
 
   all-refuses_long : (files : List StoredFile) (inputs : Inputs) (bytes : List ℕ) → ResumeEnds names before after status found → before.files ≡ Some files → inputs_of files names.run_files.inputs ≡ Ok inputs → bytes_of files names.prefix ≡ Some bytes →
-      transcript_limit < length bytes → IsOr 5 before status
-  all-refuses_long files inputs bytes (ResumeStopped s none) told ok is more = text-refuses_long (begun_names names) before after status found files inputs bytes (VerifyStopped s none) told ok is more
-  all-refuses_long files inputs bytes (ResumeStarved s) told ok is more = inr (inl s.status_is)
-  all-refuses_long files inputs bytes (PrefixNotLoaded own are n none same) told ok is more = text-refuses_long (begun_names names) before after status found files inputs bytes (NotLoaded own are n none same) told ok is more
-  all-refuses_long files inputs bytes (NotBegun own t fault are can held err nine none said same) told ok is more =
-      absurd (not-long files (begun_names names) own t bytes (is-given files (begun_names names) before own t told are held) is more)
-  all-refuses_long files inputs bytes (WentOn own t kept rec are can held sound goes c) told ok is more =
-      absurd (not-long files (begun_names names) own t bytes (is-given files (begun_names names) before own t told are held) is more)
+      transcript_limit < length bytes → IsStatusOr 5 before status
+  all-refuses_long files inputs bytes (ResumeStopped s none) modelled ok is more = text-refuses_long (resume_input_names names) before after status found files inputs bytes (VerifyStopped s none) modelled ok is more
+  all-refuses_long files inputs bytes (ResumeOutOfMemory s) modelled ok is more = inr (inl s.status_is)
+  all-refuses_long files inputs bytes (PrefixNotLoaded own are n none same) modelled ok is more = text-refuses_long (resume_input_names names) before after status found files inputs bytes (NotLoaded own are n none same) modelled ok is more
+  all-refuses_long files inputs bytes (PrefixRejected own t fault are can held err nine none said same) modelled ok is more =
+      absurd (not-long files (resume_input_names names) own t bytes (is-given files (resume_input_names names) before own t modelled are held) is more)
+  all-refuses_long files inputs bytes (Continued own t kept rec are can held sound goes c) modelled ok is more =
+      absurd (not-long files (resume_input_names names) own t bytes (is-given files (resume_input_names names) before own t modelled are held) is more)
 
   all-unread : ResumeEnds names before after status found → status ≡ 3 → HasRisen before.faults after.faults
-  all-unread (ResumeStopped s none) three = text-unread (begun_names names) before after status found (VerifyStopped s none) three
-  all-unread (ResumeStarved s) three = text-unread (begun_names names) before after status found (VerifyStarved s) three
-  all-unread (PrefixNotLoaded inputs are n none same) three = text-unread (begun_names names) before after status found (NotLoaded inputs are n none same) three
-  all-unread (NotBegun inputs text fault are can held is nine none said same) three = absurd (omega arith)
-  all-unread (WentOn inputs text kept rec are can held is goes c) three = concluded-off (order_kept kept) inputs rec 3 c three refl
+  all-unread (ResumeStopped s none) three = text-unread (resume_input_names names) before after status found (VerifyStopped s none) three
+  all-unread (ResumeOutOfMemory s) three = text-unread (resume_input_names names) before after status found (VerifyOutOfMemory s) three
+  all-unread (PrefixNotLoaded inputs are n none same) three = text-unread (resume_input_names names) before after status found (NotLoaded inputs are n none same) three
+  all-unread (PrefixRejected inputs text fault are can held is nine none said same) three = absurd (omega arith)
+  all-unread (Continued inputs text kept rec are can held is goes c) three = concluded-off (order_kept kept) inputs rec 3 c three refl
 
   all-unread_says : ResumeEnds names before after status found → status ≡ 3 →
-      ((input : Input) × IsSaid before after (unread_line (name_of names.run_files.inputs input))) ⊎ IsSaid before after (unread_line names.prefix)
-  all-unread_says (ResumeStopped s none) three = text-unread_says (begun_names names) before after status found (VerifyStopped s none) three
-  all-unread_says (ResumeStarved s) three = text-unread_says (begun_names names) before after status found (VerifyStarved s) three
-  all-unread_says (PrefixNotLoaded inputs are n none same) three = text-unread_says (begun_names names) before after status found (NotLoaded inputs are n none same) three
-  all-unread_says (NotBegun inputs text fault are can held is nine none said same) three = absurd (omega arith)
-  all-unread_says (WentOn inputs text kept rec are can held is goes c) three = concluded-off (order_kept kept) inputs rec 3 c three refl
+      ((input : Input) × IsLinePrinted before after (unread_line (name_of names.run_files.inputs input))) ⊎ IsLinePrinted before after (unread_line names.prefix)
+  all-unread_says (ResumeStopped s none) three = text-unread_says (resume_input_names names) before after status found (VerifyStopped s none) three
+  all-unread_says (ResumeOutOfMemory s) three = text-unread_says (resume_input_names names) before after status found (VerifyOutOfMemory s) three
+  all-unread_says (PrefixNotLoaded inputs are n none same) three = text-unread_says (resume_input_names names) before after status found (NotLoaded inputs are n none same) three
+  all-unread_says (PrefixRejected inputs text fault are can held is nine none said same) three = absurd (omega arith)
+  all-unread_says (Continued inputs text kept rec are can held is goes c) three = concluded-off (order_kept kept) inputs rec 3 c three refl
 
-  all-surely_read : (files : List StoredFile) → ResumeEnds names before after status found → before.files ≡ Some files → before.steady ≡ true → AreAllThere files (begun_names names) → status ≢ 3
-  all-surely_read files (ResumeStopped s none) told steady there = text-surely_read (begun_names names) before after status found files (VerifyStopped s none) told steady there
-  all-surely_read files (ResumeStarved s) told steady there = text-surely_read (begun_names names) before after status found files (VerifyStarved s) told steady there
-  all-surely_read files (PrefixNotLoaded inputs are n none same) told steady there = text-surely_read (begun_names names) before after status found files (NotLoaded inputs are n none same) told steady there
-  all-surely_read files (NotBegun inputs text fault are can held is nine none said same) told steady there = λ three. omega arith
-  all-surely_read files (WentOn inputs text kept rec are can held is goes c) told steady there = λ three. concluded-off (order_kept kept) inputs rec 3 c three refl
+  all-surely_read : (files : List StoredFile) → ResumeEnds names before after status found → before.files ≡ Some files → before.steady ≡ true → AreAllFilesPresent files (resume_input_names names) → status ≢ 3
+  all-surely_read files (ResumeStopped s none) modelled steady there = text-surely_read (resume_input_names names) before after status found files (VerifyStopped s none) modelled steady there
+  all-surely_read files (ResumeOutOfMemory s) modelled steady there = text-surely_read (resume_input_names names) before after status found files (VerifyOutOfMemory s) modelled steady there
+  all-surely_read files (PrefixNotLoaded inputs are n none same) modelled steady there = text-surely_read (resume_input_names names) before after status found files (NotLoaded inputs are n none same) modelled steady there
+  all-surely_read files (PrefixRejected inputs text fault are can held is nine none said same) modelled steady there = λ three. omega arith
+  all-surely_read files (Continued inputs text kept rec are can held is goes c) modelled steady there = λ three. concluded-off (order_kept kept) inputs rec 3 c three refl
 
   all-missing : (files : List StoredFile) (input : Input) → ResumeEnds names before after status found → before.files ≡ Some files → before.steady ≡ true → inputs_of files names.run_files.inputs ≡ Err (CannotRead input) →
-      (status ≡ 8) ⊎ ((status ≡ 3) × IsSaid before after (unread_line (name_of names.run_files.inputs input)))
-  all-missing files input (ResumeStopped s none) told steady err = text-missing (begun_names names) before after status found files input (VerifyStopped s none) told steady err
-  all-missing files input (ResumeStarved s) told steady err = inl s.status_is
-  all-missing files input (PrefixNotLoaded inputs are n none same) told steady err = absurd (not-both inputs (CannotRead input) (sym (are files told) ∙ err))
-  all-missing files input (NotBegun inputs text fault are can held is nine none said same) told steady err = absurd (not-both inputs (CannotRead input) (sym (are files told) ∙ err))
-  all-missing files input (WentOn inputs text kept rec are can held is goes c) told steady err = absurd (not-both inputs (CannotRead input) (sym (are files told) ∙ err))
+      (status ≡ 8) ⊎ ((status ≡ 3) × IsLinePrinted before after (unread_line (name_of names.run_files.inputs input)))
+  all-missing files input (ResumeStopped s none) modelled steady err = text-missing (resume_input_names names) before after status found files input (VerifyStopped s none) modelled steady err
+  all-missing files input (ResumeOutOfMemory s) modelled steady err = inl s.status_is
+  all-missing files input (PrefixNotLoaded inputs are n none same) modelled steady err = absurd (not-both inputs (CannotRead input) (sym (are files modelled) ∙ err))
+  all-missing files input (PrefixRejected inputs text fault are can held is nine none said same) modelled steady err = absurd (not-both inputs (CannotRead input) (sym (are files modelled) ∙ err))
+  all-missing files input (Continued inputs text kept rec are can held is goes c) modelled steady err = absurd (not-both inputs (CannotRead input) (sym (are files modelled) ∙ err))
 
   all-missing_prefix : (files : List StoredFile) (inputs : Inputs) → ResumeEnds names before after status found → before.files ≡ Some files → before.steady ≡ true → inputs_of files names.run_files.inputs ≡ Ok inputs →
-      bytes_of files names.prefix ≡ None → (status ≡ 8) ⊎ ((status ≡ 3) × IsSaid before after (unread_line names.prefix))
-  all-missing_prefix files inputs (ResumeStopped s none) told steady ok gone = text-missing_transcript (begun_names names) before after status found files inputs (VerifyStopped s none) told steady ok gone
-  all-missing_prefix files inputs (ResumeStarved s) told steady ok gone = inl s.status_is
-  all-missing_prefix files inputs (PrefixNotLoaded own are n none same) told steady ok gone = text-missing_transcript (begun_names names) before after status found files inputs (NotLoaded own are n none same) told steady ok gone
-  all-missing_prefix files inputs (NotBegun own t fault are can held is nine none said same) told steady ok gone = absurd (no-text t (bytes_of files names.prefix) gone (held files told).0)
-  all-missing_prefix files inputs (WentOn own t kept rec are can held is goes c) told steady ok gone = absurd (no-text t (bytes_of files names.prefix) gone (held files told).0)
+      bytes_of files names.prefix ≡ None → (status ≡ 8) ⊎ ((status ≡ 3) × IsLinePrinted before after (unread_line names.prefix))
+  all-missing_prefix files inputs (ResumeStopped s none) modelled steady ok gone = text-missing_transcript (resume_input_names names) before after status found files inputs (VerifyStopped s none) modelled steady ok gone
+  all-missing_prefix files inputs (ResumeOutOfMemory s) modelled steady ok gone = inl s.status_is
+  all-missing_prefix files inputs (PrefixNotLoaded own are n none same) modelled steady ok gone = text-missing_transcript (resume_input_names names) before after status found files inputs (NotLoaded own are n none same) modelled steady ok gone
+  all-missing_prefix files inputs (PrefixRejected own t fault are can held is nine none said same) modelled steady ok gone = absurd (no-text t (bytes_of files names.prefix) gone (held files modelled).0)
+  all-missing_prefix files inputs (Continued own t kept rec are can held is goes c) modelled steady ok gone = absurd (no-text t (bytes_of files names.prefix) gone (held files modelled).0)
 
   -- ---- what was not written, and what is unchanged
 
   all-unwritten : ResumeEnds names before after status found → status ≡ 4 → HasRisen before.faults after.faults ⊎ HasRisen before.cuts after.cuts
   all-unwritten end four = let w = at-one 4 end four refl in run-unwritten (order_kept w.kept) names.run_files before after status found (as-run w) four
 
-  stand : (files : List StoredFile) → before.files ≡ Some files → after.files ≡ before.files → MatchOption after.files ⊥ (λ new. AllOthersStand files new (output_names names.run_files))
-  stand files told same = rw (same ∙ told) (λ other ne. refl)
+  stand : (files : List StoredFile) → before.files ≡ Some files → after.files ≡ before.files → MatchOption after.files ⊥ (λ new. AllOthersUnchanged files new (output_names names.run_files))
+  stand files modelled same = rw (same ∙ modelled) (λ other ne. refl)
 
-  all-others : (files : List StoredFile) → ResumeEnds names before after status found → IsOnce names.run_files found → before.files ≡ Some files → MatchOption after.files ⊥ (λ new. AllOthersStand files new (output_names names.run_files))
-  all-others files end once told = go (way end)
+  all-others : (files : List StoredFile) → ResumeEnds names before after status found → IsOnce names.run_files found → before.files ≡ Some files → MatchOption after.files ⊥ (λ new. AllOthersUnchanged files new (output_names names.run_files))
+  all-others files end once modelled = go (way end)
     where
-      go : Way → MatchOption after.files ⊥ (λ new. AllOthersStand files new (output_names names.run_files))
-      go (Short s none same) = stand files told same
-      go (Denied nine none same) = stand files told same
-      go (On w) = run-others (order_kept w.kept) names.run_files before after status found files (as-run w) once told
+      go : Ending → MatchOption after.files ⊥ (λ new. AllOthersUnchanged files new (output_names names.run_files))
+      go (Short s none same) = stand files modelled same
+      go (Rejected nine none same) = stand files modelled same
+      go (On w) = run-others (order_kept w.kept) names.run_files before after status found files (as-run w) once modelled
 
   all-untouched : ResumeEnds names before after status found → found ≡ None → after.files ≡ before.files
   all-untouched end none = go (way end)
     where
-      go : Way → after.files ≡ before.files
+      go : Ending → after.files ≡ before.files
       go (Short s gone same) = same
-      go (Denied nine gone same) = same
+      go (Rejected nine gone same) = same
       go (On w) = run-untouched (order_kept w.kept) names.run_files before after status found (as-run w) none
 
   all-ended : ResumeEnds names before after status found → IsTrue (is_in (6 ∷ 7 ∷ []) status) → after.files ≡ before.files
   all-ended end h = let w = went end (within (6 ∷ 7 ∷ []) (0 ∷ 1 ∷ 4 ∷ 6 ∷ 7 ∷ []) status refl h) in run-ended (order_kept w.kept) names.run_files before after status found (as-run w) h
 
-  all-memory : ResumeEnds names before after status found → status ≡ 8 → IsSaid before after memory_line
+  all-memory : ResumeEnds names before after status found → status ≡ 8 → IsLinePrinted before after memory_line
   all-memory (ResumeStopped s none) eight = stopped-memory names.run_files.inputs before after status s eight
-  all-memory (ResumeStarved s) eight = s.line
+  all-memory (ResumeOutOfMemory s) eight = s.line
   all-memory (PrefixNotLoaded inputs are n none same) eight = absurd (off (3 ∷ 5 ∷ []) status 8 (unloaded-statuses names.prefix before after status n) eight refl)
-  all-memory (NotBegun inputs text fault are can held is nine none said same) eight = absurd (omega arith)
-  all-memory (WentOn inputs text kept rec are can held is goes c) eight = run-memory (order_kept kept) names.run_files before after status found (Concluded inputs rec are c) eight
+  all-memory (PrefixRejected inputs text fault are can held is nine none said same) eight = absurd (omega arith)
+  all-memory (Continued inputs text kept rec are can held is goes c) eight = run-memory (order_kept kept) names.run_files before after status found (Concluded inputs rec are c) eight
 
 pub resume-promises : (names : ResumeNames) (before after : Outside) (status : ℕ) (found : Option Record) → ResumeEnds names before after status found → IsOnce names.run_files found → (IsSome found → names.run_files.inputs.owners ≡ None) →
     ResumePromises names before after status found
@@ -459,23 +459,23 @@ resume-promises names before after status found end once valued = record {
   recorded = λ h. all-recorded names before after status found end h;
   backed = all-backed names before after status found end;
   unrecorded = λ h. all-unrecorded names before after status found end h;
-  unfits = λ files inputs text kept told g ok unfit. all-unfits names before after status found files inputs text kept end told g ok unfit;
-  refused = λ files told nine. all-refused names before after status found files end told nine;
-  refuses = λ files inputs text fault told g err. all-refuses names before after status found files inputs text fault end told g err;
-  complete = λ files inputs text kept told g ok fit. all-complete names before after status found files inputs text kept end told g ok fit;
-  any_cut = λ files inputs text behind rec told g e. all-any_cut names before after status found files inputs text behind rec end told g e;
-  whole_done = λ files inputs text rec told g e. all-whole_done names before after status found files inputs text rec end told g e;
-  whole = λ files inputs text rec told g e h. all-whole names before after status found files inputs text rec end once told g e h;
-  halted = λ files told five. all-halted names before after status found files end told five;
-  refuses_input = λ files why told err. all-refuses_input names before after status found files why end told err;
-  refuses_long = λ files inputs bytes told ok is more. all-refuses_long names before after status found files inputs bytes end told ok is more;
+  unfits = λ files inputs text kept modelled g ok unfit. all-unfits names before after status found files inputs text kept end modelled g ok unfit;
+  refused = λ files modelled nine. all-refused names before after status found files end modelled nine;
+  refuses = λ files inputs text fault modelled g err. all-refuses names before after status found files inputs text fault end modelled g err;
+  complete = λ files inputs text kept modelled g ok fit. all-complete names before after status found files inputs text kept end modelled g ok fit;
+  any_cut = λ files inputs text behind rec modelled g e. all-any_cut names before after status found files inputs text behind rec end modelled g e;
+  whole_done = λ files inputs text rec modelled g e. all-whole_done names before after status found files inputs text rec end modelled g e;
+  whole = λ files inputs text rec modelled g e h. all-whole names before after status found files inputs text rec end once modelled g e h;
+  halted = λ files modelled five. all-halted names before after status found files end modelled five;
+  refuses_input = λ files why modelled err. all-refuses_input names before after status found files why end modelled err;
+  refuses_long = λ files inputs bytes modelled ok is more. all-refuses_long names before after status found files inputs bytes end modelled ok is more;
   unread = λ three. all-unread names before after status found end three;
   unread_says = λ three. all-unread_says names before after status found end three;
-  surely_read = λ files told steady there. all-surely_read names before after status found files end told steady there;
-  missing = λ files input told steady err. all-missing names before after status found files input end told steady err;
-  missing_prefix = λ files inputs told steady ok gone. all-missing_prefix names before after status found files inputs end told steady ok gone;
+  surely_read = λ files modelled steady there. all-surely_read names before after status found files end modelled steady there;
+  missing = λ files input modelled steady err. all-missing names before after status found files input end modelled steady err;
+  missing_prefix = λ files inputs modelled steady ok gone. all-missing_prefix names before after status found files inputs end modelled steady ok gone;
   unwritten = λ four. all-unwritten names before after status found end four;
-  others = λ files told. all-others names before after status found files end once told;
+  others = λ files modelled. all-others names before after status found files end once modelled;
   untouched = λ none. all-untouched names before after status found end none;
   unfit_untouched = λ h. all-ended names before after status found end h;
   memory = λ eight. all-memory names before after status found end eight;

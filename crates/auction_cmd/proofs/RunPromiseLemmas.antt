@@ -5,31 +5,31 @@ use Rattle.outside_io.specs.Files.{StoredFile}
 use Rattle.auction_core.specs.declared.record.Record.{Record}
 use Rattle.commands.specs.Ends.{RunEnds}
 use Rattle.commands.specs.Outside.{Outside}
-use Rattle.commands.specs.RunPromises.{RunPromises, ToldRun}
+use Rattle.commands.specs.RunPromises.{RunPromises, ModelledRun}
 use Rattle.command_words.specs.Words.{RunNames}
 use Rattle.auction_cmd.proofs.LiveLemmas.{run-live}
 use Rattle.commands.proofs.RunLemmas.{run-decided, run-done, run-others, run-part, run-recorded, run-stored, run-summed, run-surely, IsOnce}
 use Rattle.commands.proofs.StartLemmas.{run-complete, run-nobody, run-open, run-opened, run-refuted, run-unfit, run-unfits}
 
-told-run : (order : Order) (files : List StoredFile) (names : RunNames) (before after : Outside) (status : ℕ) (found : Option Record) → RunEnds order names before after status found → IsOnce names found → before.files ≡ Some files → ToldRun order files names before after status found
-told-run order files names before after status found end once told = record {
-  done = λ h. run-done order names before after status found files end once told h;
-  decided = λ zero. run-decided order names before after status found files end once told zero;
-  unfit = λ six. run-unfit order names before after status found files end told six;
-  unfits = λ inputs held unfit. run-unfits order names before after status found files inputs end told held unfit;
-  left_open = λ seven. run-open order names before after status found files end told seven;
-  nobody = λ inputs held none. run-nobody order names before after status found files inputs end told held none;
-  stored = λ four. run-stored order names before after status found files end once told four;
-  part_stored = λ eight some. run-part order names before after status found files end once told eight some;
-  surely_written = λ steady room. run-surely order names before after status found files end told steady room;
-  others = run-others order names before after status found files end once told;
-  complete = λ inputs held fit. run-complete order names before after status found files inputs end told held fit;
-  live = λ owners named some. run-live before after status found files order names owners end told named some;
+told-run : (order : Order) (files : List StoredFile) (names : RunNames) (before after : Outside) (status : ℕ) (found : Option Record) → RunEnds order names before after status found → IsOnce names found → before.files ≡ Some files → ModelledRun order files names before after status found
+told-run order files names before after status found end once modelled = record {
+  done = λ h. run-done order names before after status found files end once modelled h;
+  decided = λ zero. run-decided order names before after status found files end once modelled zero;
+  unfit = λ six. run-unfit order names before after status found files end modelled six;
+  unfits = λ inputs held unfit. run-unfits order names before after status found files inputs end modelled held unfit;
+  left_open = λ seven. run-open order names before after status found files end modelled seven;
+  nobody = λ inputs held none. run-nobody order names before after status found files inputs end modelled held none;
+  stored = λ four. run-stored order names before after status found files end once modelled four;
+  part_stored = λ eight some. run-part order names before after status found files end once modelled eight some;
+  surely_written = λ steady room. run-surely order names before after status found files end modelled steady room;
+  others = run-others order names before after status found files end once modelled;
+  complete = λ inputs held fit. run-complete order names before after status found files inputs end modelled held fit;
+  live = λ owners named some. run-live before after status found files order names owners end modelled named some;
 }
 
 pub run-promises : (order : Order) (names : RunNames) (before after : Outside) (status : ℕ) (found : Option Record) → RunEnds order names before after status found → IsOnce names found → RunPromises order names before after status found
 run-promises order names before after status found end once = record {
-  told = λ files told. told-run order files names before after status found end once told;
+  modelled = λ files modelled. told-run order files names before after status found end once modelled;
   summed = λ h. run-summed order names before after status found end h;
   recorded = λ h. run-recorded order names before after status found end h;
   refuted_recorded = λ six. run-refuted order names before after status found end six;

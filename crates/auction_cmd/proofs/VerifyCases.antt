@@ -5,10 +5,10 @@ use Rattle.pack_defs.specs.Lists.{is_in}
 use Rattle.auction_core.specs.declared.record.Record.{Record}
 use Rattle.auction_core.specs.Backed.{undecided_of}
 use Rattle.commands.specs.Ends.{VerifyEnds}
-use Rattle.commands.specs.Ends.VerifyEnds.{VerifyStopped, VerifyStarved, NotLoaded, NotSound, Sound}
-use Rattle.commands.specs.Outside.{Outside, IsSaid}
+use Rattle.commands.specs.Ends.VerifyEnds.{VerifyStopped, VerifyOutOfMemory, NotLoaded, NotSound, Sound}
+use Rattle.commands.specs.Outside.{Outside, IsLinePrinted}
 use Rattle.commands.specs.Promises.{IsSomeRecord}
-use Rattle.commands.specs.Says.{memory_line}
+use Rattle.commands.specs.Messages.{memory_line}
 use Rattle.command_words.specs.Words.{VerifyNames}
 use Rattle.commands.proofs.Halts.{stopped-memory}
 use Rattle.commands.proofs.RunLemmas.{absent, some-record}
@@ -18,7 +18,7 @@ use Rattle.auction_cmd.proofs.VerifyEndLemmas.{printed-statuses, unloaded-status
 module _ (names : VerifyNames) (before after : Outside) (status : ℕ) (found : Option Record) where
   pub verify-none : VerifyEnds names before after status found → IsTrue (is_in (2 ∷ 3 ∷ 5 ∷ 9 ∷ 10 ∷ []) status) → found ≡ None
   verify-none (VerifyStopped s none) h = none
-  verify-none (VerifyStarved s) h = s.found_is
+  verify-none (VerifyOutOfMemory s) h = s.found_is
   verify-none (NotLoaded inputs are why none same) h = none
   verify-none (NotSound inputs text fault are can held is nine none said same) h = none
   verify-none (Sound inputs text rec are can held is of some printed) h =
@@ -26,14 +26,14 @@ module _ (names : VerifyNames) (before after : Outside) (status : ℕ) (found : 
 
   pub verify-backed : VerifyEnds names before after status found → MatchOption found ⊤ IsSomeRecord
   verify-backed (VerifyStopped s none) = absent found none
-  verify-backed (VerifyStarved s) = absent found s.found_is
+  verify-backed (VerifyOutOfMemory s) = absent found s.found_is
   verify-backed (NotLoaded inputs are why none same) = absent found none
   verify-backed (NotSound inputs text fault are can held is nine none said same) = absent found none
   verify-backed (Sound inputs text rec are can held is of some printed) = rw some (some-record rec.order inputs rec of.backed (λ done. of.packing))
 
-  pub verify-memory : VerifyEnds names before after status found → status ≡ 8 → IsSaid before after memory_line
+  pub verify-memory : VerifyEnds names before after status found → status ≡ 8 → IsLinePrinted before after memory_line
   verify-memory (VerifyStopped s none) eight = stopped-memory names.inputs before after status s eight
-  verify-memory (VerifyStarved s) eight = s.line
+  verify-memory (VerifyOutOfMemory s) eight = s.line
   verify-memory (NotLoaded inputs are why none same) eight = absurd (off (3 ∷ 5 ∷ []) status 8 (unloaded-statuses names.transcript before after status why) eight refl)
   verify-memory (NotSound inputs text fault are can held is nine none said same) eight = absurd (omega arith)
   verify-memory (Sound inputs text rec are can held is of some printed) eight =

@@ -5,7 +5,7 @@ use Rattle.pack_defs.specs.ClockRule.{ClockTest}
 use Rattle.pack_defs.specs.Lists.{is_in}
 use Rattle.outside_io.specs.Files.{StoredFile, bytes_of}
 use Rattle.auction_core.specs.declared.record.Record.{Record}
-use Rattle.commands.specs.declared.fault.TranscriptFault.{TranscriptFault}
+use Rattle.commands.specs.declared.messages.fault.TranscriptFault.{TranscriptFault}
 use Rattle.commands.specs.declared.inputs.Inputs.{Inputs}
 use Rattle.commands.specs.Delivery.{IsPrinted}
 use Rattle.commands.specs.Delivery.IsPrinted.{Written, CutShort}
@@ -42,7 +42,7 @@ unloaded-statuses name before after status (LongText five long said) = one-of (3
 -- ---- what is given
 
 pub is-given : (files : List StoredFile) (names : VerifyNames) (before : Outside) (inputs : Inputs) (text : List ℕ) → before.files ≡ Some files → AreInputsOf names.inputs before inputs → IsTextHeld names before text → IsGiven files names inputs text
-is-given files names before inputs text told are held = record { accepted = are files told; told = (held files told).0; within = (held files told).1 }
+is-given files names before inputs text modelled are held = record { accepted = are files modelled; modelled = (held files modelled).0; within = (held files modelled).1 }
 
 pub same-text : (a b : List ℕ) → Some a ≡ Some b → a ≡ b
 same-text a b e = cc
@@ -56,14 +56,14 @@ over limit n more most = omega arith
 -- the given text is not too long
 pub not-long : (files : List StoredFile) (names : VerifyNames) (inputs : Inputs) (text bytes : List ℕ) → IsGiven files names inputs text → bytes_of files names.transcript ≡ Some bytes → transcript_limit < length bytes → ⊥
 not-long files names inputs text bytes g is more =
-    let same : bytes ≡ text = same-text bytes text (sym is ∙ g.told) in
+    let same : bytes ≡ text = same-text bytes text (sym is ∙ g.modelled) in
     over transcript_limit (length text) (subst (λ z. transcript_limit < length z) same more) g.within
 
 -- two readings of the given files are equal
 pub same-verified : (files : List StoredFile) (names : VerifyNames) (own inputs : Inputs) (t text : List ℕ) → IsGiven files names own t → IsGiven files names inputs text → verified own t ≡ verified inputs text
 same-verified files names own inputs t text a b =
     let one : own ≡ inputs = same-inputs own inputs (sym a.accepted ∙ b.accepted) in
-    let other : t ≡ text = same-text t text (sym a.told ∙ b.told) in
+    let other : t ≡ text = same-text t text (sym a.modelled ∙ b.modelled) in
     ap (λ (i : Inputs). verified i t) one ∙ ap (λ z. verified inputs z) other
 
 -- what verifies has no fault

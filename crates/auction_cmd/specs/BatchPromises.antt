@@ -11,20 +11,20 @@ use Rattle.auction_core.specs.declared.record.Ending.TheVariants.{Done}
 use Rattle.auction_core.specs.declared.record.Record.{Record}
 use Rattle.auction_core.specs.Backed.{undecided_of}
 use Rattle.commands.specs.declared.inputs.Inputs.{Inputs}
-use Rattle.commands.specs.declared.input_file.Stop.TheVariants.{CannotRead, Refused, NoMemory}
+use Rattle.commands.specs.declared.inputs.input_file.Stop.TheVariants.{CannotRead, Refused, NoMemory}
 use Rattle.command_words.specs.declared.run_words.Input.{Input}
 use Rattle.commands.specs.Batch.{BatchStop, Unread, Twice, HeldBatch, batch_of, batch_status, batch_texts, own_status, status_lines}
 use Rattle.command_words.specs.Words.{inputs_with}
 use Rattle.commands.specs.BatchEnds.{AreRecordsOf, EachOf, IsBatchHeld, IsUnderList}
-use Rattle.commands.specs.Delivery.{AllOthersStand, AreStored, AreStoredUpTo}
+use Rattle.commands.specs.Delivery.{AllOthersUnchanged, AreStored, AreStoredUpTo}
 use Rattle.commands.specs.Inputs.{inputs_of}
-use Rattle.commands.specs.Outside.{Outside, IsSaid}
+use Rattle.commands.specs.Outside.{Outside, IsLinePrinted}
 use Rattle.commands.specs.Records.{IsRecordBy, outcome, result_of, run_order}
-use Rattle.commands.specs.Refusals.{refusal_line}
+use Rattle.commands.specs.Refusal.{refusal_line}
 use Rattle.command_words.specs.Words.{name_of}
-use Rattle.commands.specs.Says.{memory_line, twice_line, unread_line, unwritten_line}
+use Rattle.commands.specs.Messages.{memory_line, twice_line, unread_line, unwritten_line}
 use Rattle.commands.specs.Statuses.{DONE, LEFT_OPEN, UNREAD, UNWRITTEN, REFUSED, NO_MEMORY, SOME_UNSTARTED}
-use Rattle.commands.specs.VerifyPromises.{IsOr}
+use Rattle.commands.specs.VerifyPromises.{IsStatusOr}
 use Rattle.command_words.specs.Words.{BatchNames, InputNames}
 
 -- Whether all auctions of the batch ended. There is a record for each line of the list, in order: it is backed, and of the auction of
@@ -67,7 +67,7 @@ IsRefusing (Twice name) = ⊤
 pub record IsBatchPart (files : List StoredFile) (names : BatchNames) (before after : Outside) (batch : List Record) : Type 0 where
   pub run : IsBatchRun names before batch
   pub new : List StoredFile
-  pub now_told : after.files ≡ Some new
+  pub now_modelled : after.files ≡ Some new
   pub part : AreStoredUpTo files new (batch_texts run.held batch)
 
 -- Whether a store failed in a folder that is not steady, and the folder's fault count rose. The line names the file.
@@ -75,7 +75,7 @@ pub record IsBatchUnstored (files : List StoredFile) (names : BatchNames) (befor
   pub risen : HasRisen before.faults after.faults
   pub unsteady : before.steady ≢ true
   pub upto : IsBatchPart files names before after batch
-  pub line : IsSaid before after (unwritten_line upto.part.failed.name)
+  pub line : IsLinePrinted before after (unwritten_line upto.part.failed.name)
 
 -- Whether the results are stored, but the sink failed at the status lines, for which it did not guarantee room. The sink grew by the
 -- lines or by some of them, from the first byte on.
@@ -84,7 +84,7 @@ pub record IsBatchCut (files : List StoredFile) (names : BatchNames) (before aft
   pub stored : MatchOption after.files ⊥ (λ new. AreStored files new (batch_texts run.held batch))
   pub failed : HasRisen before.cuts after.cuts
   pub unsure : before.sure < length (status_lines run.held.lines batch)
-  pub lines : IsSaid before after (status_lines run.held.lines batch)
+  pub lines : IsLinePrinted before after (status_lines run.held.lines batch)
 
 -- What `batch` promises, by its status and its records.
 pub record BatchPromises (names : BatchNames) (before after : Outside) (status : ℕ) (batch : List Record) : Type 0 where
@@ -103,23 +103,23 @@ pub record BatchPromises (names : BatchNames) (before after : Outside) (status :
   -- In a modelled folder, if there are records at 8, the results are stored up to one name.
   pub recorded : status ≡ UNWRITTEN → IsBatchRun names before batch
   pub unrecorded : IsTrue (is_in (UNREAD ∷ REFUSED ∷ []) status) → batch ≡ []
-  pub starved : status ≡ NO_MEMORY → ((batch ≡ []) × (after.files ≡ before.files)) ⊎ IsBatchRun names before batch
+  pub out_of_memory : status ≡ NO_MEMORY → ((batch ≡ []) × (after.files ≡ before.files)) ⊎ IsBatchRun names before batch
   pub part_stored : (files : List StoredFile) → before.files ≡ Some files → status ≡ NO_MEMORY → batch ≢ [] →
       IsBatchPart files names before after batch
   -- In a modelled folder, at status 5 the reading first stops at a file that is too long or rejected, or at a repeated result name.
   -- The line says which. A batch of this kind ends at status 5, unless memory ran out or an unsteady folder failed to read.
   pub refused : (files : List StoredFile) → before.files ≡ Some files → status ≡ REFUSED →
-      (stop : BatchStop) × IsRefusing stop × (batch_of files names ≡ Err stop) × IsSaid before after (refused_line stop)
+      (stop : BatchStop) × IsRefusing stop × (batch_of files names ≡ Err stop) × IsLinePrinted before after (refused_line stop)
   pub refuses : (files : List StoredFile) (stop : BatchStop) → before.files ≡ Some files → batch_of files names ≡ Err stop → IsRefusing stop →
-      IsOr REFUSED before status
+      IsStatusOr REFUSED before status
   -- At status 3 the folder's fault count rose, and the line names a file of the words or a scenario of the list. The other clauses
   -- are for a steady modelled folder. If the reading first stops at a missing file, the line names that file at status 3, or the
   -- status is 8. If it stops at no missing file, the status is not 3.
   pub unread : status ≡ UNREAD → HasRisen before.faults after.faults
-      × ((own : InputNames) × (input : Input) × IsUnderList names before own × IsSaid before after (unread_line (name_of own input)))
+      × ((own : InputNames) × (input : Input) × IsUnderList names before own × IsLinePrinted before after (unread_line (name_of own input)))
   pub missing : (files : List StoredFile) (own : InputNames) (input : Input) → before.files ≡ Some files → before.steady ≡ true →
       batch_of files names ≡ Err (Unread own (CannotRead input)) →
-      (status ≡ NO_MEMORY) ⊎ ((status ≡ UNREAD) × IsSaid before after (unread_line (name_of own input)))
+      (status ≡ NO_MEMORY) ⊎ ((status ≡ UNREAD) × IsLinePrinted before after (unread_line (name_of own input)))
   pub surely_read : (files : List StoredFile) → before.files ≡ Some files → before.steady ≡ true →
       ((own : InputNames) (input : Input) → batch_of files names ≢ Err (Unread own (CannotRead input))) → status ≢ UNREAD
   -- At status 4 the fault count of the folder or of the sink rose. In a modelled folder, either a store failed, or the results are
@@ -133,10 +133,10 @@ pub record BatchPromises (names : BatchNames) (before after : Outside) (status :
   -- In a modelled folder, an accepted batch ends at status 0, 1, 4 or 11, unless memory ran out or an unsteady folder failed to
   -- read.
   pub complete : (files : List StoredFile) (held : HeldBatch) → before.files ≡ Some files → batch_of files names ≡ Ok held →
-      IsOr DONE before status ⊎ IsTrue (is_in (LEFT_OPEN ∷ UNWRITTEN ∷ SOME_UNSTARTED ∷ []) status)
+      IsStatusOr DONE before status ⊎ IsTrue (is_in (LEFT_OPEN ∷ UNWRITTEN ∷ SOME_UNSTARTED ∷ []) status)
   -- In a modelled folder with an accepted batch, no file changes except those of the results. No file changes without records.
   pub others : (files : List StoredFile) (held : HeldBatch) → before.files ≡ Some files → batch_of files names ≡ Ok held →
-      MatchOption after.files ⊥ (λ new. AllOthersStand files new (map (λ line. line.result) held.lines))
+      MatchOption after.files ⊥ (λ new. AllOthersUnchanged files new (map (λ line. line.result) held.lines))
   pub untouched : batch ≡ [] → after.files ≡ before.files
   -- At status 8 the line says that memory ran out.
-  pub memory : status ≡ NO_MEMORY → IsSaid before after memory_line
+  pub memory : status ≡ NO_MEMORY → IsLinePrinted before after memory_line

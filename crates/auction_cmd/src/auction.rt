@@ -3,23 +3,23 @@
 ghost use Rattle.std.specs.Prelude.{◌≡◌, [], None, map};
 ghost use Rattle.std.specs.String.{string_bytes};
 ghost use Rattle.commands.specs.Faults.{AreFaultsCounted};
-ghost use Rattle.commands.specs.Outside.{IsSaidTo, outside};
+ghost use Rattle.commands.specs.Outside.{IsLinePrintedTo, outside};
 ghost use Rattle.commands.specs.Plan.{plan_of};
 ghost use Rattle.auction_cmd.specs.Program.{ProgramEnds, ProgramPromises};
-ghost use Rattle.commands.specs.Says.{twice_line};
+ghost use Rattle.commands.specs.Messages.{twice_line};
 ghost use Rattle.commands.specs.Statuses.{REFUSED};
 
 use command_words::words::{CommandArgs, WordsFault, read_words};
 use commands::batch::batch;
 use commands::check::check;
-use commands::explain::starve;
 use commands::export::export;
 use commands::finish::Finish;
 use commands::import::import;
 use commands::make::make;
+use commands::messages::explain::end_out_of_memory;
+use commands::messages::print_line;
 use commands::resume::resume;
 use commands::run::run;
-use commands::says::say;
 use commands::seek::seek;
 use commands::status::{NO_COMMAND, REFUSED};
 use commands::verify::verify;
@@ -36,9 +36,9 @@ fn refuse_twice<K: Sink>(out: &mut K, name: &str) -> Finish
     ensures none { result.result ≡ None }
     ensures no_other { result.below ≡ None }
     ensures no_batch { result.batch ≡ [] }
-    ensures says { IsSaidTo (K.told out.old) (K.told out.new) (twice_line name.now) }
+    ensures says { IsLinePrintedTo (K.modelled out.old) (K.modelled out.new) (twice_line name.now) }
 {
-    say(out, &[name, ": given twice\n"]);
+    print_line(out, &[name, ": given twice\n"]);
     Finish::without_record(REFUSED)
 }
 
@@ -51,10 +51,10 @@ fn carry_out<F: Folder, K: Sink, G: Gate + Sync, W: Threads + Wait + Sync>(
     out: &mut K,
     gate: &G,
 ) -> Finish
-    ensures ends { ProgramEnds (plan_of (map string_bytes words.now)) (outside (F.told folder.old) (K.told out.old))
-        (outside (F.told folder.new) (K.told out.new)) result.status result.result result.below result.batch }
+    ensures ends { ProgramEnds (plan_of (map string_bytes words.now)) (outside (F.modelled folder.old) (K.modelled out.old))
+        (outside (F.modelled folder.new) (K.modelled out.new)) result.status result.result result.below result.batch }
     ensures counted { AreFaultsCounted
-        (outside (F.told folder.old) (K.told out.old)) (outside (F.told folder.new) (K.told out.new)) result.status }
+        (outside (F.modelled folder.old) (K.modelled out.old)) (outside (F.modelled folder.new) (K.modelled out.new)) result.status }
 {
     match read_words(alloc, words) {
         Ok(CommandArgs::Run(files)) => match files.given_twice() {
@@ -85,10 +85,10 @@ fn carry_out<F: Folder, K: Sink, G: Gate + Sync, W: Threads + Wait + Sync>(
             None => import(alloc, &files, folder, out),
         },
         Err(WordsFault::Refused(text)) => {
-            say(out, &[text.as_str()]);
+            print_line(out, &[text.as_str()]);
             Finish::without_record(NO_COMMAND)
         }
-        Err(WordsFault::NoMemory) => starve(out),
+        Err(WordsFault::NoMemory) => end_out_of_memory(out),
     }
 }
 
@@ -167,16 +167,16 @@ pub fn auction_main<F: Folder, K: Sink, G: Gate + Sync, W: Threads + Wait + Sync
     gate: &G,
 ) -> Finish
     // How the program ends, case by case.
-    ensures ends { ProgramEnds (plan_of (map string_bytes words.now)) (outside (F.told folder.old) (K.told out.old))
-        (outside (F.told folder.new) (K.told out.new)) result.status result.result result.below result.batch }
+    ensures ends { ProgramEnds (plan_of (map string_bytes words.now)) (outside (F.modelled folder.old) (K.modelled out.old))
+        (outside (F.modelled folder.new) (K.modelled out.new)) result.status result.result result.below result.batch }
 
     // What the reader may rely on: one clause for each promise.
-    ensures promises { ProgramPromises (plan_of (map string_bytes words.now)) (outside (F.told folder.old) (K.told out.old))
-        (outside (F.told folder.new) (K.told out.new)) result.status result.result result.below result.batch }
+    ensures promises { ProgramPromises (plan_of (map string_bytes words.now)) (outside (F.modelled folder.old) (K.modelled out.old))
+        (outside (F.modelled folder.new) (K.modelled out.new)) result.status result.result result.below result.batch }
 
     // At which statuses the fault counts of the outside stay.
     ensures counted { AreFaultsCounted
-        (outside (F.told folder.old) (K.told out.old)) (outside (F.told folder.new) (K.told out.new)) result.status }
+        (outside (F.modelled folder.old) (K.modelled out.old)) (outside (F.modelled folder.new) (K.modelled out.new)) result.status }
 {
     carry_out(rt, alloc, words, folder, out, gate)
 }

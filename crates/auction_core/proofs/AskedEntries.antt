@@ -1,14 +1,14 @@
--- The channel map entries of the stations that a test asks about, in one pass over the slots. For `parts::asked_on`.
+-- The channel map entries of the stations that a test asks about, in one pass over the slots. For `component_labels::tested_stations_on`.
 use Rattle.std.proofs.Common.{◌≡◌, ◌∙◌, ℕ, ◌+◌, ◌<◌, ◌≤◌, Bool, true, false, cond, List, [], ◌∷◌, ◌++◌, ◌==◌, filter, drop, length, get_or, Option, Some, None, refl, sym, ap, arith, eq-eqb, append-nil, append_assoc}
 use Rattle.std.proofs.lemmas.Bool.{both_ways, cond-false, cond-true, false_from_ne_true, or_left, or_right}
 use Rattle.std.proofs.lemmas.List.{get_or_default}
 use Rattle.std.proofs.Math.ListN.{drop_of_length-le}
 use Rattle.pack_defs.specs.Lists.{is_ascending, is_in}
 use Rattle.auction_core.specs.AirMap.{placed_entries}
-use Rattle.auction_core.specs.Parts.{is_asked, label_in}
+use Rattle.auction_core.specs.ComponentLabels.{is_asked, label_in}
 use Rattle.auction_core.specs.State.{restricted}
 use Rattle.auction_core.proofs.Answers.{filter-in, in-filter}
-use Rattle.auction_core.proofs.PartLemmas.{label-at}
+use Rattle.auction_core.proofs.LabelLemmas.{label-at}
 use Rattle.auction_core.proofs.Placed.{places-more, with_own}
 
 -- the entries of the stations that satisfy p, in the slots from i on

@@ -1,4 +1,4 @@
--- The start of a transcript check, and each further step. For `follow` and `step_check`.
+-- The start of a transcript check, and each further step. For `check_sequence` and `step_check`.
 use Rattle.std.proofs.Common.{◌≡◌, ◌<◌, ◌≤◌, ℕ, ◌+◌, Bool, true, false, if◌then◌else◌, List, [], ◌∷◌, ◌++◌, find, length, take, drop, get_or, Option, Some, None, option_map, is_none, is_some, refl, sym, ap, ap₂, subst, ◌∙◌, arith}
 use Rattle.std.specs.Option.{option_map_or}
 use Rattle.std.proofs.lemmas.List.{drop_more, take_more, map-append, length-drop, length-take-le, length-map}
@@ -13,7 +13,7 @@ use Rattle.cert_types.specs.Valid.{fit_fault, unless}
 use Rattle.auction_core.specs.declared.record.Shown.{Shown}
 use Rattle.auction_core.specs.declared.record.Shown.TheVariants.{Empty, Fits, NoChannel}
 use Rattle.auction_core.specs.declared.record.Step.{Step}
-use Rattle.auction_core.specs.State.{CoreState, answered, before_start, go_on, opening, shows_room, start_task, start_unasked, started, task_of}
+use Rattle.auction_core.specs.State.{CoreState, answered, before_start, advance_to_query, opening, shows_room, start_task, start_unasked, started, task_of}
 use Rattle.auction_core.specs.Backed.{after_start}
 use Rattle.auction_core.proofs.Keeps.{go-on-start}
 use Rattle.auction_core.proofs.Prefixes.{opening-goes}
@@ -23,12 +23,12 @@ use Rattle.auction_core.specs.declared.prefix.ShownWhy.TheVariants.{NotValid}
 use Rattle.auction_core.specs.declared.prefix.ResumeErr.{ResumeErr}
 use Rattle.auction_core.specs.declared.prefix.ResumeErr.TheVariants as resume
 use Rattle.auction_core.specs.declared.step_err.StepErr.{StepErr}
-use Rattle.auction_core.specs.Checked.{IsAt, IsStepFault, is_empty_shown, step_told, step_leaves}
+use Rattle.auction_core.specs.Checked.{IsAt, IsStepFault, is_empty_shown, step_result, step_leaves}
 use Rattle.auction_core.specs.NotShown.{NotShown, Explains, not_shown_at, start_fault, steps_fault}
 use Rattle.auction_core.specs.LogNumbers.{steps_in}
 use Rattle.auction_core.proofs.NumberLemmas.{steps-beside}
-use Rattle.auction_core.proofs.FollowLemmas.{checked}
-use Rattle.auction_core.proofs.ThroughLemmas.{through-left}
+use Rattle.auction_core.proofs.CheckSequenceLemmas.{checked}
+use Rattle.auction_core.proofs.ReplayTestsLemmas.{through-left}
 
 -- ---- the start
 
@@ -41,7 +41,7 @@ opened : (sc : Scenario) (book : BookView) (order : Order) → (opening sc book 
 unfolding opening
 opened sc book order = go (start_unasked sc book)
   where
-    inner : (shown : Shown) (b : Bool) → (if b then go_on sc book (clock_tests sc order) (after_start sc order shown) else record (before_start sc order) { start = Some shown }).start ≡ Some shown
+    inner : (shown : Shown) (b : Bool) → (if b then advance_to_query sc book (clock_tests sc order) (after_start sc order shown) else record (before_start sc order) { start = Some shown }).start ≡ Some shown
     inner shown true = (go-on-start sc book (clock_tests sc order) (after_start sc order shown)).0
     inner shown false = refl
 
@@ -130,14 +130,14 @@ pub at-place : (all : List TranscriptStep) (place : ℕ) (x : TranscriptStep) (x
 at-place all place x xs e = head-of x (get_or all place x) xs (drop (place + 1) all) (sym e ∙ drop_more all place x (shorter all place x xs e))
 
 pub step-on : (sc sc' : Scenario) (book book' : BookView) (order : Order) (start : Shown) (all : List TranscriptStep) (place : ℕ) (x : TranscriptStep) (xs : List TranscriptStep) (found : Option NotShown) (state new : CoreState) → sc' ≡ sc → book' ≡ book → drop place all ≡ x ∷ xs
-    → IsAt sc book order start (steps_in (take place all)) (drop place all) found state → step_told sc' book' state place x ≡ None → new ≡ step_leaves sc' book' state place x
+    → IsAt sc book order start (steps_in (take place all)) (drop place all) found state → step_result sc' book' state place x ≡ None → new ≡ step_leaves sc' book' state place x
     → IsAt sc book order start (steps_in (take (place + 1) all)) (drop (place + 1) all) found new
 step-on sc sc' book book' order start all place x xs found state new es eb e h told leaves =
     let parts = at-place all place x xs e in
     let inside = shorter all place x xs e in
     let len : length (steps_in (take place all)) ≡ place = taken all place (omega (arith, inside)) in
     let h' : IsAt sc book order start (steps_in (take place all)) (x ∷ xs) found state = subst (λ (ys : List TranscriptStep). IsAt sc book order start (steps_in (take place all)) ys found state) e h in
-    let told' : step_told sc book state (length (steps_in (take place all))) x ≡ None = ap (λ k. step_told sc book state k x) len ∙ (ap₂ (λ s b. step_told s b state place x) (sym es) (sym eb) ∙ told) in
+    let told' : step_result sc book state (length (steps_in (take place all))) x ≡ None = ap (λ k. step_result sc book state k x) len ∙ (ap₂ (λ s b. step_result s b state place x) (sym es) (sym eb) ∙ told) in
     let leaves' : new ≡ step_leaves sc book state (length (steps_in (take place all))) x = leaves ∙ (ap₂ (λ s b. step_leaves s b state place x) es eb ∙ ap (λ k. step_leaves sc book state k x) (sym len)) in
     let next = (checked sc book order start (steps_in (take place all)) x xs found state h').none told' in
     subst (λ (ds : List Step). IsAt sc book order start ds (drop (place + 1) all) found new) (sym (one-more all place x inside parts.0))
@@ -153,14 +153,14 @@ explain (resume.NotShown s w) None step found e f = absurd (none-why (record { s
 explain (resume.NotShown s w) (Some v) step found e f = f v refl ∙ e
 
 pub step-off : (sc sc' : Scenario) (book book' : BookView) (order : Order) (start : Shown) (all : List TranscriptStep) (place : ℕ) (x : TranscriptStep) (xs : List TranscriptStep) (found : Option NotShown) (state : CoreState) (r : ResumeErr) → sc' ≡ sc → book' ≡ book → drop place all ≡ x ∷ xs
-    → IsAt sc book order start (steps_in (take place all)) (drop place all) found state → Explains r (option_map (λ why. record { step = place + 1; why = why }) (step_told sc' book' state place x)) → Explains r found
+    → IsAt sc book order start (steps_in (take place all)) (drop place all) found state → Explains r (option_map (λ why. record { step = place + 1; why = why }) (step_result sc' book' state place x)) → Explains r found
 step-off sc sc' book book' order start all place x xs found state r es eb e h told =
     let inside = shorter all place x xs e in
     let len : length (steps_in (take place all)) ≡ place = taken all place (omega (arith, inside)) in
     let h' : IsAt sc book order start (steps_in (take place all)) (x ∷ xs) found state = subst (λ (ys : List TranscriptStep). IsAt sc book order start (steps_in (take place all)) ys found state) e h in
-    let same : step_told sc' book' state place x ≡ step_told sc book state (length (steps_in (take place all))) x = ap₂ (λ s b. step_told s b state place x) es eb ∙ ap (λ k. step_told sc book state k x) (sym len) in
+    let same : step_result sc' book' state place x ≡ step_result sc book state (length (steps_in (take place all))) x = ap₂ (λ s b. step_result s b state place x) es eb ∙ ap (λ k. step_result sc book state k x) (sym len) in
     let c = checked sc book order start (steps_in (take place all)) x xs found state h' in
-    explain r (step_told sc' book' state place x) (place + 1) found told
+    explain r (step_result sc' book' state place x) (place + 1) found told
     (λ why q. c.some why (sym same ∙ q) ∙ ap (λ (k : ℕ). not_shown_at (k + 1) why) len)
 
 -- ---- how the start is reported

@@ -17,9 +17,9 @@ use Rattle.auction_core.specs.declared.record.Shown.TheVariants.{Empty, Fits, Sa
 use Rattle.auction_core.specs.declared.record.Step.{Step}
 use Rattle.auction_core.specs.declared.record.Ending.TheVariants.{Done}
 use Rattle.auction_core.specs.State.{CoreState, test_of, shows_room, settled}
-use Rattle.auction_core.specs.Backed.{is_undecided, undecided_of, IsStartShown, IsStepShown, after_steps, AreShown, after_start, ending_of, IsCarriedThrough, IsEnded, IsBacked}
+use Rattle.auction_core.specs.Backed.{is_undecided, undecided_of, IsStartShown, IsStepShown, after_steps, AreShown, after_start, ending_of, IsCompleted, IsEnded, IsBacked}
 use Rattle.auction_core.specs.Rule.{IsAuction}
-use Rattle.auction_core.specs.Walked.{FitsStand}
+use Rattle.auction_core.specs.ClockProgress.{FitsStayClean}
 use Rattle.auction_core.proofs.Steps.{after_steps-steps, same_test, same-back, listed-undecided, listed-asked}
 use Rattle.auction_core.proofs.Room.{IsReady, IsOf, room, new-map}
 use Rattle.auction_core.proofs.Walk.{no-room, ready, off-air}
@@ -87,7 +87,7 @@ and_true true = refl
 and_true false = refl
 
 -- a properly settled step moves the clock as the rule does
-pub step-moves : (sc : Scenario) (book : BookView) (U : List ClockTest) (state : CoreState) (x : Step) → IsReady sc book state x.station → FitsStand sc book state → is_active state.clock x.station ≡ true → IsStepShown sc book state x → is_listed U (test_of x) ≡ is_undecided x.shown →
+pub step-moves : (sc : Scenario) (book : BookView) (U : List ClockTest) (state : CoreState) (x : Step) → IsReady sc book state x.station → FitsStayClean sc book state → is_active state.clock x.station ≡ true → IsStepShown sc book state x → is_listed U (test_of x) ≡ is_undecided x.shown →
     (settled sc state (test_of x) x.shown).clock ≡ after_test sc book U state.clock (test_of x)
 step-moves sc book U state x r f active h l =
     let t : ClockTest = test_of x in
@@ -101,24 +101,24 @@ step-moves sc book U state x r f active h l =
 -- these steps lead to a clean map of the stations on air, in this state of the clock, and earlier fits still work
 pub record Arrives (sc : Scenario) (book : BookView) (clock : ClockState) (state : CoreState) : Type 0 where
   pub of : IsOf sc book clock state.map
-  pub fits : FitsStand sc book state
+  pub fits : FitsStayClean sc book state
 
 -- if the steps left are the tests left that the rule asks, they lead to a clean map of the stations on air
-walk : (sc : Scenario) (book : BookView) (U ts done : List ClockTest) (state : CoreState) (xs : List Step) → IsAuction sc book → state.clock ≡ after_tests sc book U done (opening_state sc) → IsOf sc book state.clock state.map → FitsStand sc book state →
+walk : (sc : Scenario) (book : BookView) (U ts done : List ClockTest) (state : CoreState) (xs : List Step) → IsAuction sc book → state.clock ≡ after_tests sc book U done (opening_state sc) → IsOf sc book state.clock state.map → FitsStayClean sc book state →
     map test_of xs ≡ asked_from sc book U ts state.clock → AreShown sc book state xs → AreListed U xs →
     Arrives sc book (after_tests sc book U ts state.clock) (after_steps sc state xs)
 walk sc book U [] done state [] a e of fits tests shown listed = record { of = of; fits = fits }
 walk sc book U [] done state (x ∷ xs) a e of fits tests shown listed = cc
 walk sc book U (t ∷ ts) done state xs a e of fits tests shown listed =
     let next : ClockTest → ClockState = λ u. after_test sc book U state.clock u in
-    let turn : (u : ClockTest) → next u ≡ after_tests sc book U (done ++ u ∷ []) (opening_state sc) = λ u.
+    let place_in_round : (u : ClockTest) → next u ≡ after_tests sc book U (done ++ u ∷ []) (opening_state sc) = λ u.
     ap (λ c. after_test sc book U c u) e ∙ sym (in_turn sc book U done (u ∷ []) (opening_state sc)) in
     let first : (x : Step) (ys : List Step) → is_active state.clock x.station ≡ true → map test_of ys ≡ asked_from sc book U ts (next (test_of x)) → IsStepShown sc book state x → AreShown sc book (settled sc state (test_of x) x.shown) ys → AreListed U (x ∷ ys) → Arrives sc book (after_tests sc book U ts (next (test_of x))) (after_steps sc (settled sc state (test_of x) x.shown) ys) = λ x ys active m h s l.
     let r = ready sc book U done state x.station a e of active in
     let moved : (settled sc state (test_of x) x.shown).clock ≡ next (test_of x) = step-moves sc book U state x r fits active h (l x (Contains-here x ys)) in
     let stand = fits-stand-step sc book state (test_of x) x.shown a (off-air sc book U done state.clock a e) active fits h in
     subst (λ c. Arrives sc book (after_tests sc book U ts c) (after_steps sc (settled sc state (test_of x) x.shown) ys)) moved
-    (walk sc book U ts (done ++ test_of x ∷ []) (settled sc state (test_of x) x.shown) ys a (moved ∙ turn (test_of x)) (new-map sc book state (test_of x) x.shown r fits active h) stand
+    (walk sc book U ts (done ++ test_of x ∷ []) (settled sc state (test_of x) x.shown) ys a (moved ∙ place_in_round (test_of x)) (new-map sc book state (test_of x) x.shown r fits active h) stand
     (m ∙ ap (asked_from sc book U ts) (sym moved)) s (λ y c. l y (Contains-there x y ys c))) in
     let asked : (ys : List Step) → is_active state.clock t.station ≡ true → map test_of ys ≡ t ∷ asked_from sc book U ts (next t) → AreShown sc book state ys → AreListed U ys → Arrives sc book (after_tests sc book U ts (next t)) (after_steps sc state ys) = λ ys active. elim ys as (λ ys. map test_of ys ≡ t ∷ asked_from sc book U ts (next t) → AreShown sc book state ys → AreListed U ys → Arrives sc book (after_tests sc book U ts (next t)) (after_steps sc state ys)) [
       | [] ↦ λ m s l. cc
@@ -133,7 +133,7 @@ walk sc book U (t ∷ ts) done state xs a e of fits tests shown listed =
       | false ↦ λ idle m.
           let same : next t ≡ state.clock = test_idle book U sc state.clock t idle in
           subst (λ c. Arrives sc book (after_tests sc book U ts c) (after_steps sc state xs)) (sym same)
-          (walk sc book U ts (done ++ t ∷ []) state xs a (sym same ∙ turn t) of fits m shown listed)
+          (walk sc book U ts (done ++ t ∷ []) state xs a (sym same ∙ place_in_round t) of fits m shown listed)
     ] in
     go (is_active state.clock t.station) refl tests
 
@@ -145,11 +145,11 @@ apart-first (t ∷ first) later apart =
     (false_from_ne_true (is_listed first t) (λ yes. both_ways (is_listed (first ++ later) t) apart.0 (list_any-append (λ u. same_test u t) first later ∙ or_left (is_listed first t) (is_listed later t) yes)), apart-first first later apart.1)
 
 -- earlier fits still work, given the steps
-pub under-way-fits : (sc : Scenario) (book : BookView) (start : Shown) (state : CoreState) → IsAuction sc book → IsStartShown sc book start → shows_room start ≡ true → IsUnderWay sc book start state → FitsStand sc book state
+pub under-way-fits : (sc : Scenario) (book : BookView) (start : Shown) (state : CoreState) → IsAuction sc book → IsStartShown sc book start → shows_room start ≡ true → IsUnderWay sc book start state → FitsStayClean sc book state
 under-way-fits sc book start state a k r u =
     let U : List ClockTest = undecided_of state.steps in
     let first : CoreState = after_start sc state.order start in
-    let apart : TestsApart u.before = apart-first u.before state.left (subst TestsApart (sym u.parts) (clock_apart sc state.order a.stations)) in
+    let apart : TestsApart u.before = apart-first u.before state.left (subst TestsApart (sym u.all_tests) (clock_apart sc state.order a.stations)) in
     let listed : AreListed U state.steps = listed-shown state.steps (subst TestsApart (sym u.tests) (asked-apart sc book U u.before (opening_state sc) apart)) in
     let there = walk sc book U u.before [] first state.steps a refl (start-map sc book start a k r) (fits-stand-first sc book first refl refl) u.tests u.shown listed in
     fits-stand-same sc book (after_steps sc first state.steps) state u.same_clock u.same_map (after_steps-steps sc first state.steps) there.fits
@@ -169,7 +169,7 @@ done-room (Undecided receipts) e = cc
 pub done-map : (sc : Scenario) (book : BookView) (order : Order) (rec : Record) → IsAuction sc book → IsBacked sc book order rec → rec.ending ≡ Done → IsOf sc book (clock_rule sc book order (undecided_of rec.steps)) rec.map
 unfolding clock_rule asked_tests
 done-map sc book order rec a b done =
-    let carried : IsCarriedThrough sc book order rec = subst (IsEnded sc book order rec) done b.rest in
+    let carried : IsCompleted sc book order rec = subst (IsEnded sc book order rec) done b.rest in
     let U : List ClockTest = undecided_of rec.steps in
     let room : shows_room rec.start ≡ true = done-room rec.start (sym b.ending ∙ done) in
     let first : CoreState = after_start sc order rec.start in

@@ -1,8 +1,8 @@
--- Slots that are emptied one after another. For `notes`.
+-- Slots that are emptied one after another. For `pending_receipts`.
 use Rattle.std.proofs.Common.{◌≡◌, ℕ, zero, suc, ◌+◌, ◌<◌, List, [], ◌∷◌, ◌++◌, map, length, take, Option, Some, None, get_or, refl, sym, ap, ◌∙◌, arith}
 use Rattle.std.specs.Prelude.{slice_set}
 use Rattle.cert_types.specs.declared.answer.Receipt.{Receipt}
-use Rattle.auction_core.specs.Notes.{notes_from}
+use Rattle.auction_core.specs.PendingReceipts.{receipts_from}
 
 -- the slots, with the first n of them emptied
 abbrev pub emptied : ℕ → List (Option Receipt) → List (Option Receipt)
@@ -12,7 +12,7 @@ emptied (suc i) (x ∷ xs) = None ∷ emptied i xs
 
 -- the receipts of the first n slots
 abbrev pub first_receipts : ℕ → List (Option Receipt) → List Receipt
-first_receipts i xs = map (λ n. n.receipt) (notes_from 0 (take i xs))
+first_receipts i xs = map (λ n. n.receipt) (receipts_from 0 (take i xs))
 
 pub emptied-length : (i : ℕ) (xs : List (Option Receipt)) → length (emptied i xs) ≡ length xs
 emptied-length zero xs = refl
@@ -35,11 +35,11 @@ emptied-set i xs h =
     let next : i + 1 ≡ suc i = omega arith in
     set-suc i xs h ∙ sym (ap (λ (k : ℕ). emptied k xs) next)
 
-pub none-left : (w : ℕ) (xs : List (Option Receipt)) → notes_from w (emptied (length xs) xs) ≡ []
+pub none-left : (w : ℕ) (xs : List (Option Receipt)) → receipts_from w (emptied (length xs) xs) ≡ []
 none-left w [] = refl
 none-left w (x ∷ xs) = none-left (w + 1) xs
 
-taken-suc : (w i : ℕ) (xs : List (Option Receipt)) (d : Option Receipt) (r : Receipt) → i < length xs → get_or xs i d ≡ Some r → map (λ n. n.receipt) (notes_from w (take (suc i) xs)) ≡ map (λ n. n.receipt) (notes_from w (take i xs)) ++ r ∷ []
+taken-suc : (w i : ℕ) (xs : List (Option Receipt)) (d : Option Receipt) (r : Receipt) → i < length xs → get_or xs i d ≡ Some r → map (λ n. n.receipt) (receipts_from w (take (suc i) xs)) ≡ map (λ n. n.receipt) (receipts_from w (take i xs)) ++ r ∷ []
 taken-suc w i [] d r h e = absurd (omega arith)
 taken-suc w zero (None ∷ xs) d r h e = cc
 taken-suc w zero (Some y ∷ xs) d r h e = let same : y ≡ r = cc in ap (λ z. z ∷ []) same
@@ -51,7 +51,7 @@ taken-one i xs d r h e =
     let next : i + 1 ≡ suc i = omega arith in
     ap (λ (k : ℕ). first_receipts k xs) next ∙ taken-suc 0 i xs d r h e
 
-passed-suc : (w i : ℕ) (xs : List (Option Receipt)) (d : Option Receipt) → get_or xs i d ≡ None → notes_from w (take (suc i) xs) ≡ notes_from w (take i xs)
+passed-suc : (w i : ℕ) (xs : List (Option Receipt)) (d : Option Receipt) → get_or xs i d ≡ None → receipts_from w (take (suc i) xs) ≡ receipts_from w (take i xs)
 passed-suc w zero [] d e = refl
 passed-suc w (suc i) [] d e = refl
 passed-suc w zero (None ∷ xs) d e = refl
@@ -73,5 +73,5 @@ pub place-is : (i : ℕ) (xs now : List (Option Receipt)) (seen taken : Option R
 place-is i xs now seen taken e g t =
     sym (emptied-at i xs seen) ∙ (ap (λ ys. get_or ys i seen) (sym e) ∙ (sym g ∙ sym t))
 
-pub all-emptied : (i : ℕ) (xs now : List (Option Receipt)) → i ≡ length xs → now ≡ emptied i xs → notes_from 0 now ≡ []
-all-emptied i xs now e h = ap (notes_from 0) (h ∙ ap (λ (k : ℕ). emptied k xs) e) ∙ none-left 0 xs
+pub all-emptied : (i : ℕ) (xs now : List (Option Receipt)) → i ≡ length xs → now ≡ emptied i xs → receipts_from 0 now ≡ []
+all-emptied i xs now e h = ap (receipts_from 0) (h ∙ ap (λ (k : ℕ). emptied k xs) e) ∙ none-left 0 xs

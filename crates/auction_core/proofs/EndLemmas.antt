@@ -1,4 +1,4 @@
--- What the check of a transcript's start and steps reports. For `follow`.
+-- What the check of a transcript's start and steps reports. For `check_sequence`.
 use Rattle.std.proofs.Common.{◌≡◌, ℕ, ◌+◌, Bool, true, false, if◌then◌else◌, List, [], length, Option, Some, None, option_map, refl, sym, ap, ap₂, subst, ◌∙◌, inl, inr}
 use Rattle.std.proofs.lemmas.List.{length-map}
 use Rattle.pack_defs.specs.declared.scenario.Scenario.{Scenario}
@@ -16,10 +16,10 @@ use Rattle.auction_core.specs.declared.prefix.ShownWhy.TheVariants.{NotValid}
 use Rattle.auction_core.specs.declared.prefix.ShownWhy.TheVariants as Why
 use Rattle.auction_core.specs.declared.prefix.ResumeErr.{ResumeErr}
 use Rattle.auction_core.specs.declared.prefix.ResumeErr.TheVariants as resume
-use Rattle.auction_core.specs.Checked.{FinishTells, IsAllShown, IsAt, found_in}
+use Rattle.auction_core.specs.Checked.{FinishFault, IsAllShown, IsAt, found_in}
 use Rattle.auction_core.specs.NotShown.{NotShown, Explains, not_shown, not_shown_at, start_fault, started_fault, step_fault_or, steps_fault, within_steps}
 use Rattle.auction_core.specs.LogNumbers.{steps_in}
-use Rattle.auction_core.proofs.FollowLemmas.{end-checked}
+use Rattle.auction_core.proofs.CheckSequenceLemmas.{end-checked}
 use Rattle.auction_core.proofs.CheckLemmas.{explain}
 use Rattle.auction_core.proofs.KeptLemmas.{end-within}
 
@@ -50,7 +50,7 @@ same-count t = length-map t.steps (λ (x : TranscriptStep). x.step)
 
 -- a step is missing
 pub end-err : (sc : Scenario) (book : BookView) (t : Transcript) (state : CoreState) (r : ResumeErr) → start_fault sc book t.start ≡ None → IsAt sc book t.order t.start (steps_in t.steps) [] (found_in sc book t) state
-    → FinishTells r state (length t.steps) → Explains r (not_shown sc book t)
+    → FinishFault r state (length t.steps) → Explains r (not_shown sc book t)
 end-err sc book t state resume.NoMemory e a h = tt
 end-err sc book t state (resume.NotShown step why) e a h =
     let c = end-checked sc book t.order t.start (steps_in t.steps) (found_in sc book t) state a in
@@ -107,8 +107,8 @@ ended-at sc sc' book book' t items state new es eb ei h f =
     (subst (λ (xs : List TranscriptStep). IsAt sc book t.order t.start [] xs (found_in sc book t) state) (sym ei) h))))))
 
 pub end-err-at : (sc : Scenario) (book : BookView) (t : Transcript) (state : CoreState) (count : ℕ) (r : ResumeErr) → start_fault sc book t.start ≡ None → IsAt sc book t.order t.start (steps_in t.steps) [] (found_in sc book t) state
-    → FinishTells r state count → count ≡ length t.steps → Explains r (not_shown sc book t)
-end-err-at sc book t state count r e a h n = end-err sc book t state r e a (subst (FinishTells r state) n h)
+    → FinishFault r state count → count ≡ length t.steps → Explains r (not_shown sc book t)
+end-err-at sc book t state count r e a h n = end-err sc book t state r e a (subst (FinishFault r state) n h)
 
 -- ---- steps without an end
 

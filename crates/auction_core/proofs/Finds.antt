@@ -8,7 +8,7 @@ use Rattle.pack_defs.specs.Lists.{is_in, without}
 use Rattle.pack_defs.proofs.Members.{Contains-here, is_in-from}
 use Rattle.pack_defs.proofs.ClockSteps.{is_in-without}
 use Rattle.pack_defs.proofs.Rounds.{Apart}
-use Rattle.pack_defs.proofs.Standings.{count_absent, one_at}
+use Rattle.pack_defs.proofs.StationEntryLemmas.{count_absent, one_at}
 
 -- no element satisfies p, or the search finds one that does
 pub find_cases : {X : Type 0} (p : X → Bool) (xs : List X) →
@@ -21,10 +21,10 @@ find_cases p (x ∷ xs) =
           let one : cond {A = ℕ} (p x) 1 0 ≡ 1 = cond-true (p x) 1 0 here in
           inr (x, refl, here, refl, omega (arith, split, one))
       | false ↦ λ later.
-          let nought : cond {A = ℕ} (p x) 1 0 ≡ 0 = cond-false (p x) 1 0 later in
+          let is_zero : cond {A = ℕ} (p x) 1 0 ≡ 0 = cond-false (p x) 1 0 later in
           elim (find_cases p xs) [
-            | inl none ↦ inl (none.0, none.1, omega (arith, split, nought, none.2))
-            | inr found ↦ inr (found.0, found.1, found.2, found.3, omega (arith, split, nought, found.4))
+            | inl none ↦ inl (none.0, none.1, omega (arith, split, is_zero, none.2))
+            | inr found ↦ inr (found.0, found.1, found.2, found.3, omega (arith, split, is_zero, found.4))
           ]
     ]) refl
 

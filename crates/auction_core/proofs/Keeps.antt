@@ -19,11 +19,11 @@ use Rattle.cert_types.proofs.Meaning.{fit-means}
 use Rattle.auction_core.specs.declared.record.Shown.{Shown}
 use Rattle.auction_core.specs.declared.record.Shown.TheVariants.{Fits, Refuted, Undecided}
 use Rattle.auction_core.specs.declared.posting.Reply.TheVariants.{Ended, WrongQuery, Stranger}
-use Rattle.auction_core.specs.State.{CoreState, NotedSpent, test_of, shows_room, start_delta, settled, settled_unasked, go_on, started, before_start, start_unasked, opening, has_ended, test_task, start_task, first_task, task_of, past_first, answered}
-use Rattle.auction_core.specs.Take.{PostingView, fault_of, turned_away, take, after_postings}
+use Rattle.auction_core.specs.State.{CoreState, NotedSpent, test_of, shows_room, start_delta, settled, settled_unasked, advance_to_query, started, before_start, start_unasked, opening, has_ended, test_task, start_task, first_task, task_of, after_first_test, answered}
+use Rattle.auction_core.specs.Take.{PostingView, fault_of, unjudged_reply, take, after_postings}
 use Rattle.auction_core.specs.Backed.{IsValidOf, IsSettledBy, IsStartShown, IsStepShown, after_steps, AreShown, after_start}
 use Rattle.auction_core.specs.Rule.{Answers, SettlesQuery, AreValid, AreNoted, IsQueryNext, IsStartKept, IsAuction}
-use Rattle.auction_core.specs.Walked.{IsWalked}
+use Rattle.auction_core.specs.ClockProgress.{IsClockProgress}
 use Rattle.auction_core.proofs.Kept.{IsAtStart, IsUnderWay, Stands, IsKept, in-case, match-true, match-false}
 use Rattle.auction_core.proofs.Cases.{take-cases, with_noted, all_spent, noted_as}
 use Rattle.auction_core.proofs.Sets.{step_of, fits-stand-first, fits-stand-same}
@@ -35,15 +35,15 @@ use Rattle.auction_core.proofs.Walk.{shown-number, IsStepShown-same, walk-step, 
 -- ---- parts of a state
 
 -- going on keeps the start and the pending receipts
-pub go-on-start : (sc : Scenario) (book : BookView) (ts : List ClockTest) (state : CoreState) → ((go_on sc book ts state).start ≡ state.start) × ((go_on sc book ts state).noted ≡ state.noted)
+pub go-on-start : (sc : Scenario) (book : BookView) (ts : List ClockTest) (state : CoreState) → ((advance_to_query sc book ts state).start ≡ state.start) × ((advance_to_query sc book ts state).noted ≡ state.noted)
 go-on-start sc book [] state = (refl, refl)
 go-on-start sc book (t ∷ ts) state =
     let at : CoreState = record state { left = t ∷ ts } in
-    let inner : (o : Option Shown) → ((option_map_or (go_on sc book ts) (option_map (settled sc state t) o) at).start ≡ state.start) × ((option_map_or (go_on sc book ts) (option_map (settled sc state t) o) at).noted ≡ state.noted) = λ o. elim o as (λ o. ((option_map_or (go_on sc book ts) (option_map (settled sc state t) o) at).start ≡ state.start) × ((option_map_or (go_on sc book ts) (option_map (settled sc state t) o) at).noted ≡ state.noted)) [
+    let inner : (o : Option Shown) → ((option_map_or (advance_to_query sc book ts) (option_map (settled sc state t) o) at).start ≡ state.start) × ((option_map_or (advance_to_query sc book ts) (option_map (settled sc state t) o) at).noted ≡ state.noted) = λ o. elim o as (λ o. ((option_map_or (advance_to_query sc book ts) (option_map (settled sc state t) o) at).start ≡ state.start) × ((option_map_or (advance_to_query sc book ts) (option_map (settled sc state t) o) at).noted ≡ state.noted)) [
       | None ↦ (refl, refl)
       | Some shown ↦ go-on-start sc book ts (settled sc state t shown)
     ] in
-    let outer : (b : Bool) → ((option_map_or (go_on sc book ts) (if b then option_map (settled sc state t) (settled_unasked sc book state t) else Some state) at).start ≡ state.start) × ((option_map_or (go_on sc book ts) (if b then option_map (settled sc state t) (settled_unasked sc book state t) else Some state) at).noted ≡ state.noted) = λ b. elim b as (λ b. ((option_map_or (go_on sc book ts) (if b then option_map (settled sc state t) (settled_unasked sc book state t) else Some state) at).start ≡ state.start) × ((option_map_or (go_on sc book ts) (if b then option_map (settled sc state t) (settled_unasked sc book state t) else Some state) at).noted ≡ state.noted)) [
+    let outer : (b : Bool) → ((option_map_or (advance_to_query sc book ts) (if b then option_map (settled sc state t) (settled_unasked sc book state t) else Some state) at).start ≡ state.start) × ((option_map_or (advance_to_query sc book ts) (if b then option_map (settled sc state t) (settled_unasked sc book state t) else Some state) at).noted ≡ state.noted) = λ b. elim b as (λ b. ((option_map_or (advance_to_query sc book ts) (if b then option_map (settled sc state t) (settled_unasked sc book state t) else Some state) at).start ≡ state.start) × ((option_map_or (advance_to_query sc book ts) (if b then option_map (settled sc state t) (settled_unasked sc book state t) else Some state) at).noted ≡ state.noted)) [
       | true ↦ inner (settled_unasked sc book state t)
       | false ↦ go-on-start sc book ts state
     ] in
@@ -73,7 +73,7 @@ pub record IsBare (sc : Scenario) (state : CoreState) : Type 0 where
   pub steps : state.steps ≡ []
 
 -- the state at the first test, once the start set was shown to fit
-pub first-walk : (sc : Scenario) (book : BookView) (shown : Shown) (state : CoreState) → IsAuction sc book → IsBare sc state → IsStartShown sc book shown → shows_room shown ≡ true → IsWalked sc book shown (record state { start = Some shown; map = overlaid state.map (start_delta shown) }) []
+pub first-walk : (sc : Scenario) (book : BookView) (shown : Shown) (state : CoreState) → IsAuction sc book → IsBare sc state → IsStartShown sc book shown → shows_room shown ≡ true → IsClockProgress sc book shown (record state { start = Some shown; map = overlaid state.map (start_delta shown) }) []
 first-walk sc book shown state a h k r =
     let of = start-map sc book shown a k r in
     record {
@@ -92,14 +92,14 @@ started-keeps : (sc : Scenario) (book : BookView) (shown : Shown) (state : CoreS
 started-keeps sc book shown state a h n k =
     let on : CoreState = record state { start = Some shown; map = overlaid state.map (start_delta shown) } in
     let off : CoreState = record state { start = Some shown } in
-    let go : (b : Bool) → shows_room shown ≡ b → IsKept sc book (if b then go_on sc book (clock_tests sc state.order) on else off) = λ b. elim b as (λ b. shows_room shown ≡ b → IsKept sc book (if b then go_on sc book (clock_tests sc state.order) on else off)) [
+    let go : (b : Bool) → shows_room shown ≡ b → IsKept sc book (if b then advance_to_query sc book (clock_tests sc state.order) on else off) = λ b. elim b as (λ b. shows_room shown ≡ b → IsKept sc book (if b then advance_to_query sc book (clock_tests sc state.order) on else off)) [
       | true ↦ λ r.
           let s = go-on-start sc book (clock_tests sc state.order) on in
-          from-parts sc book (go_on sc book (clock_tests sc state.order) on) (Some shown) s.0 k
-          (in-case (IsUnderWay sc book shown (go_on sc book (clock_tests sc state.order) on)) (IsAtStart sc book (go_on sc book (clock_tests sc state.order) on)) (shows_room shown)
+          from-parts sc book (advance_to_query sc book (clock_tests sc state.order) on) (Some shown) s.0 k
+          (in-case (IsUnderWay sc book shown (advance_to_query sc book (clock_tests sc state.order) on)) (IsAtStart sc book (advance_to_query sc book (clock_tests sc state.order) on)) (shows_room shown)
           (λ _. go-on-keeps sc book shown (clock_tests sc state.order) on [] a (first-walk sc book shown state a h k r) refl)
           (λ no. absurd (both_ways (shows_room shown) no r)))
-          (none-noted sc book (go_on sc book (clock_tests sc state.order) on) a (s.1 ∙ n))
+          (none-noted sc book (advance_to_query sc book (clock_tests sc state.order) on) a (s.1 ∙ n))
       | false ↦ λ r.
           from-parts sc book off (Some shown) refl k
           (in-case (IsUnderWay sc book shown off) (IsAtStart sc book off) (shows_room shown)
@@ -132,7 +132,7 @@ open-of false true true n e = cc
 open-of false true false n e = (refl, refl)
 
 -- for a posting that is not turned away there is a query, and its worker exists
-pub not-ended : (sc : Scenario) (state : CoreState) (w number : ℕ) → turned_away sc state w number ≡ None → (has_ended state ≡ false) × (w < length sc.workers)
+pub not-ended : (sc : Scenario) (state : CoreState) (w number : ℕ) → unjudged_reply sc state w number ≡ None → (has_ended state ≡ false) × (w < length sc.workers)
 not-ended sc state w number e =
     let h = open-of (has_ended state) (number == state.number) (nat_le (length sc.workers) w) state.number e in
     (h.0, leb-false (length sc.workers) w h.1)
@@ -151,31 +151,31 @@ settled-start sc book state shown a h e s =
     (subst (λ o. MatchOption o (IsSettledBy sc book (start_task sc 1) shown) (λ unasked. shown ≡ unasked)) (sym (h.query e)) k')
 
 -- a settled test
-settled-test : (sc : Scenario) (book : BookView) (start : Shown) (state : CoreState) (t : ClockTest) (ts : List ClockTest) (shown : Shown) → IsAuction sc book → IsUnderWay sc book start state → shows_room start ≡ true → IsStartShown sc book start → state.start ≡ Some start → state.left ≡ t ∷ ts → SettlesQuery sc book state shown → IsKept sc book (go_on sc book ts (settled sc (record state { noted = []; number = state.number + 1 }) t shown))
+settled-test : (sc : Scenario) (book : BookView) (start : Shown) (state : CoreState) (t : ClockTest) (ts : List ClockTest) (shown : Shown) → IsAuction sc book → IsUnderWay sc book start state → shows_room start ≡ true → IsStartShown sc book start → state.start ≡ Some start → state.left ≡ t ∷ ts → SettlesQuery sc book state shown → IsKept sc book (advance_to_query sc book ts (settled sc (record state { noted = []; number = state.number + 1 }) t shown))
 settled-test sc book start state t ts shown a u r k e f s =
     let next : CoreState = record state { noted = []; number = state.number + 1 } in
     let task : task_of sc book state ≡ Some (test_task sc book state t) = task-is sc book state (Some start) (t ∷ ts) e f in
     let valid : IsSettledBy sc book (test_task sc book state t) shown = subst (λ o. MatchOption o ⊥ (λ task. IsSettledBy sc book task shown)) task s in
     let query : IsQueryNext sc book state (t ∷ ts) = subst (IsQueryNext sc book state) f u.query in
-    let parts : clock_tests sc state.order ≡ u.before ++ t ∷ ts = sym u.parts ∙ ap (λ l. u.before ++ l) f in
-    let w : IsWalked sc book start next u.before = record { clock = u.clock; tests = u.tests; shown = u.shown; same_clock = u.same_clock; same_map = u.same_map; clean = u.clean; stations = u.stations; fits = fits-stand-same sc book state next refl refl refl (under-way-fits sc book start state a k r u) } in
+    let parts : clock_tests sc state.order ≡ u.before ++ t ∷ ts = sym u.all_tests ∙ ap (λ l. u.before ++ l) f in
+    let w : IsClockProgress sc book start next u.before = record { clock = u.clock; tests = u.tests; shown = u.shown; same_clock = u.same_clock; same_map = u.same_map; clean = u.clean; stations = u.stations; fits = fits-stand-same sc book state next refl refl refl (under-way-fits sc book start state a k r u) } in
     let step : IsStepShown sc book state (step_of t shown) = subst (λ o. MatchOption o (IsSettledBy sc book (test_task sc book state t) shown) (λ unasked. shown ≡ unasked)) (sym query.1) valid in
     let after : CoreState = settled sc next t shown in
-    let w' : IsWalked sc book start after (u.before ++ t ∷ []) = walk-step sc book start next u.before ts t shown a w parts query.0 (IsStepShown-same sc book next state (step_of t shown) refl refl refl step) in
+    let w' : IsClockProgress sc book start after (u.before ++ t ∷ []) = walk-step sc book start next u.before ts t shown a w parts query.0 (IsStepShown-same sc book next state (step_of t shown) refl refl refl step) in
     let g = go-on-start sc book ts after in
-    from-parts sc book (go_on sc book ts after) (Some start) (g.0 ∙ e) k
-    (in-case (IsUnderWay sc book start (go_on sc book ts after)) (IsAtStart sc book (go_on sc book ts after)) (shows_room start)
+    from-parts sc book (advance_to_query sc book ts after) (Some start) (g.0 ∙ e) k
+    (in-case (IsUnderWay sc book start (advance_to_query sc book ts after)) (IsAtStart sc book (advance_to_query sc book ts after)) (shows_room start)
     (λ _. go-on-keeps sc book start ts after (u.before ++ t ∷ []) a w' (parts ∙ sym (append_assoc u.before (t ∷ []) ts)))
     (λ no. absurd (both_ways (shows_room start) no r)))
-    (none-noted sc book (go_on sc book ts after) a g.1)
+    (none-noted sc book (advance_to_query sc book ts after) a g.1)
 
 -- settling the current query properly keeps the rule
 pub answered-keeps : (sc : Scenario) (book : BookView) (state : CoreState) (shown : Shown) → IsAuction sc book → IsKept sc book state → has_ended state ≡ false → SettlesQuery sc book state shown → IsKept sc book (answered sc book state shown)
 answered-keeps sc book state shown a h on s =
     let next : CoreState = record state { noted = []; number = state.number + 1 } in
-    let go : (o : Option Shown) (l : List ClockTest) → state.start ≡ o → state.left ≡ l → IsKept sc book (if is_none o then started sc book next shown else past_first sc book next shown l) = λ o l. elim o as (λ o. state.start ≡ o → state.left ≡ l → IsKept sc book (if is_none o then started sc book next shown else past_first sc book next shown l)) [
+    let go : (o : Option Shown) (l : List ClockTest) → state.start ≡ o → state.left ≡ l → IsKept sc book (if is_none o then started sc book next shown else after_first_test sc book next shown l) = λ o l. elim o as (λ o. state.start ≡ o → state.left ≡ l → IsKept sc book (if is_none o then started sc book next shown else after_first_test sc book next shown l)) [
       | None ↦ λ e f. settled-start sc book state shown a (subst (Stands sc book state) e h.stands) e s
-      | Some start ↦ elim l as (λ l. state.start ≡ Some start → state.left ≡ l → IsKept sc book (past_first sc book next shown l)) [
+      | Some start ↦ elim l as (λ l. state.start ≡ Some start → state.left ≡ l → IsKept sc book (after_first_test sc book next shown l)) [
         | [] ↦ λ e f.
             let ended : has_ended state ≡ true = ap₂ (λ (o : Option Shown) (l : List ClockTest). if is_none o then false else is_empty l) e f in
             absurd (both_ways (has_ended state) on ended)
@@ -219,7 +219,7 @@ no-fault book answer (Some task) None f g e = absurd (g refl)
 no-fault book answer (Some task) (Some worker) f g e = e
 
 -- a posting that is not turned away and whose answer has no fault answers the current query
-answers : (sc : Scenario) (book : BookView) (state : CoreState) (p : PostingView) (answer : Answer) → turned_away sc state p.worker p.number ≡ None → fault_of sc book state p ≡ None → p.answer ≡ answer → Answers sc book state p.worker answer
+answers : (sc : Scenario) (book : BookView) (state : CoreState) (p : PostingView) (answer : Answer) → unjudged_reply sc state p.worker p.number ≡ None → fault_of sc book state p ≡ None → p.answer ≡ answer → Answers sc book state p.worker answer
 answers sc book state p answer t f e =
     let parts = not-ended sc state p.worker p.number t in
     subst (Answers sc book state p.worker) e
@@ -249,7 +249,7 @@ more-stands sc book state x h n =
       | Some start ↦ λ e s. in-case (IsUnderWay sc book start (with_noted state x)) (IsAtStart sc book (with_noted state x)) (shows_room start)
           (λ r.
           let u = match-true (IsUnderWay sc book start state) (IsAtStart sc book state) (shows_room start) r s in
-          record { before = u.before; parts = u.parts; clock = u.clock; tests = u.tests; shown = u.shown; same_clock = u.same_clock; same_map = u.same_map; clean = u.clean; stations = u.stations; query = query-same state.left u.query })
+          record { before = u.before; all_tests = u.all_tests; clock = u.clock; tests = u.tests; shown = u.shown; same_clock = u.same_clock; same_map = u.same_map; clean = u.clean; stations = u.stations; query = query-same state.left u.query })
           (λ no.
           let t = match-false (IsUnderWay sc book start state) (IsAtStart sc book state) (shows_room start) no s in
           record { clock = t.clock; left = t.left; map = t.map; steps = t.steps; query = t.query })

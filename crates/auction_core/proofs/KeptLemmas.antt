@@ -1,4 +1,4 @@
--- The accepted beginning of a transcript has the first tests that the rule asks, each properly settled. For `follow_kept`.
+-- The accepted beginning of a transcript has the first tests that the rule asks, each properly settled. For `check_kept_sequence`.
 use Rattle.std.proofs.Common.{◌≡◌, ℕ, suc, ◌+◌, ◌≤◌, Bool, true, false, not, ◌&&◌, nat_le, if◌then◌else◌, List, [], ◌∷◌, ◌++◌, map, length, take, Option, Some, None, refl, sym, ap, subst, ◌∙◌, arith, append_assoc}
 use Rattle.std.specs.Option.{option_map_or}
 use Rattle.std.proofs.lemmas.Bool.{both_ways}
@@ -23,10 +23,10 @@ use Rattle.auction_core.specs.declared.prefix.ResumeErr.{ResumeErr}
 use Rattle.auction_core.specs.declared.prefix.ResumeErr.TheVariants as resume
 use Rattle.auction_core.specs.Backed.{AreShown, after_start, after_steps, undecided_of}
 use Rattle.auction_core.specs.LogNumbers.{AreNumbered, steps_in}
-use Rattle.auction_core.specs.NotShown.{Explains, NotShown, at_test, fault_at_end, is_test, kept_as, next_asked, not_kept, not_shown, not_shown_at, order_kept, start_fault, started_fault, step_fault, step_fault_or, steps_fault, unstarted_fault, within_steps}
+use Rattle.auction_core.specs.NotShown.{Explains, NotShown, at_test, fault_at_end, is_test, as_transcript, next_asked, not_kept, not_shown, not_shown_at, order_kept, start_fault, started_fault, step_fault, step_fault_or, steps_fault, unstarted_fault, within_steps}
 use Rattle.auction_core.specs.Prefix.{IsPrefix, resumed}
 use Rattle.auction_core.specs.Rule.{IsAuction}
-use Rattle.auction_core.specs.Walked.{IsWalked}
+use Rattle.auction_core.specs.ClockProgress.{IsClockProgress}
 use Rattle.auction_core.proofs.Done.{done-room}
 use Rattle.auction_core.proofs.StartFaults.{after_steps-order, start-shown, start-walk}
 use Rattle.auction_core.proofs.StepLemmas.{nil-is, step-shown}
@@ -69,8 +69,8 @@ within-behind steps why = go (nat_le (steps + 1) steps) (le-false steps)
 pub record IsFollowedSoFar (sc : Scenario) (book : BookView) (start : Shown) (state : CoreState) (xs : List TranscriptStep) : Type 0 where
   pub before : List ClockTest
   pub left : List ClockTest
-  pub walked : IsWalked sc book start (after_steps sc state (steps_in xs)) before
-  pub parts : clock_tests sc state.order ≡ before ++ left
+  pub progress : IsClockProgress sc book start (after_steps sc state (steps_in xs)) before
+  pub all_tests : clock_tests sc state.order ≡ before ++ left
   pub numbered : AreNumbered sc book state xs
 
 if-within : (steps step : ℕ) (b : Bool) (o : Option NotShown) → step ≤ steps → within_steps steps (if b then o else not_shown_at step WrongTest) ≡ None → (b ≡ true) × (within_steps steps o ≡ None)
@@ -87,10 +87,10 @@ shift k l = omega arith
 inside : (k l : ℕ) → k + 1 ≤ k + suc l
 inside k l = omega arith
 
-followed-so-far : (sc : Scenario) (book : BookView) (start : Shown) (k : ℕ) (state : CoreState) (before ts : List ClockTest) (xs : List TranscriptStep) → IsAuction sc book → IsWalked sc book start state before → clock_tests sc state.order ≡ before ++ ts
+followed-so-far : (sc : Scenario) (book : BookView) (start : Shown) (k : ℕ) (state : CoreState) (before ts : List ClockTest) (xs : List TranscriptStep) → IsAuction sc book → IsClockProgress sc book start state before → clock_tests sc state.order ≡ before ++ ts
     → within_steps (k + length xs) (steps_fault sc book (k + 1) state ts xs) ≡ None → IsFollowedSoFar sc book start state xs
 unfolding steps_fault
-followed-so-far sc book start k state before ts [] a w parts e = record { before = before; left = ts; walked = w; parts = parts; numbered = tt }
+followed-so-far sc book start k state before ts [] a w parts e = record { before = before; left = ts; progress = w; all_tests = parts; numbered = tt }
 followed-so-far sc book start k state before ts (x ∷ xs) a w parts e =
     go (next_asked state.clock ts) (passed sc book start state before ts w parts) e
     (λ before' us w' parts' e'. followed-so-far sc book start (k + 1) (settled sc state (test_of x.step) x.step.shown) before' us xs a w' parts' e')
@@ -99,7 +99,7 @@ followed-so-far sc book start k state before ts (x ∷ xs) a w parts e =
     next = settled sc state (test_of x.step) x.step.shown
 
     Rest : Type 0
-    Rest = (before' us : List ClockTest) → IsWalked sc book start next before' → clock_tests sc next.order ≡ before' ++ us → within_steps (k + 1 + length xs) (steps_fault sc book (k + 1 + 1) next us xs) ≡ None → IsFollowedSoFar sc book start next xs
+    Rest = (before' us : List ClockTest) → IsClockProgress sc book start next before' → clock_tests sc next.order ≡ before' ++ us → within_steps (k + 1 + length xs) (steps_fault sc book (k + 1 + 1) next us xs) ≡ None → IsFollowedSoFar sc book start next xs
 
     go : (left : List ClockTest) → IsPassed sc book start state left → within_steps (k + suc (length xs)) (at_test sc book (k + 1) state x left (λ rest. steps_fault sc book (k + 1 + 1) next rest xs)) ≡ None → Rest → IsFollowedSoFar sc book start state (x ∷ xs)
     go [] p f more = absurd (none-within (k + suc (length xs)) (k + 1) WrongTest (inside k (length xs)) f)
@@ -109,11 +109,11 @@ followed-so-far sc book start k state before ts (x ∷ xs) a w parts e =
         let same : t ≡ test_of x.step = same-tests t x test.0 in
         let shown = step-shown sc book state x both.0 in
         let active : is_active state.clock x.step.station ≡ true = ap (λ (u : ClockTest). is_active state.clock u.station) (sym same) ∙ p.asked t us refl in
-        let parts' : clock_tests sc state.order ≡ p.before ++ test_of x.step ∷ us = p.parts ∙ ap (λ (u : ClockTest). p.before ++ u ∷ us) same in
-        let w' = walk-step sc book start state p.before us (test_of x.step) x.step.shown a p.walked parts' active shown.0 in
+        let parts' : clock_tests sc state.order ≡ p.before ++ test_of x.step ∷ us = p.all_tests ∙ ap (λ (u : ClockTest). p.before ++ u ∷ us) same in
+        let w' = walk-step sc book start state p.before us (test_of x.step) x.step.shown a p.progress parts' active shown.0 in
         let rest = more (p.before ++ test_of x.step ∷ []) us w' (parts' ∙ sym (append_assoc p.before (test_of x.step ∷ []) us))
         (subst (λ n. within_steps n (steps_fault sc book (k + 1 + 1) next us xs) ≡ None) (shift k (length xs)) both.1) in
-        record { before = rest.before; left = rest.left; walked = rest.walked; parts = rest.parts; numbered = (shown.1, rest.numbered) }
+        record { before = rest.before; left = rest.left; progress = rest.progress; all_tests = rest.all_tests; numbered = (shown.1, rest.numbered) }
 
 -- ---- the complete beginning
 
@@ -143,15 +143,15 @@ started sc book order start xs a none e =
     let own : last.steps ≡ steps = after_steps-steps sc first steps in
     let turned : last.order ≡ order = after_steps-order sc first steps in
     let U : List ClockTest = undecided_of steps in
-    let asked : map test_of steps ≡ asked_from sc book U f.before (opening_state sc) = subst (λ (ys : List Step). map test_of ys ≡ asked_from sc book (undecided_of ys) f.before (opening_state sc)) own f.walked.tests in
+    let asked : map test_of steps ≡ asked_from sc book U f.before (opening_state sc) = subst (λ (ys : List Step). map test_of ys ≡ asked_from sc book (undecided_of ys) f.before (opening_state sc)) own f.progress.tests in
     let all : asked_from sc book U (clock_tests sc order) (opening_state sc) ≡ asked_from sc book U f.before (opening_state sc) ++ asked_from sc book U f.left (after_tests sc book U f.before (opening_state sc)) =
-    ap (λ (ts : List ClockTest). asked_from sc book U ts (opening_state sc)) f.parts ∙ asked_in_turn sc book U f.before f.left (opening_state sc) in (
+    ap (λ (ts : List ClockTest). asked_from sc book U ts (opening_state sc)) f.all_tests ∙ asked_in_turn sc book U f.before f.left (opening_state sc) in (
       record {
         start_is = s.0;
         idle = λ no. absurd (both_ways (shows_room start) no room);
         tests = first-of (asked_from sc book U f.before (opening_state sc)) (map test_of steps) (asked_from sc book U f.left (after_tests sc book U f.before (opening_state sc))) (length steps) (sym asked) (length-map steps test_of)
             ∙ ap (take (length steps)) (sym all);
-        shown = subst (λ (d : Order). AreShown sc book (after_start sc d start) steps) turned (subst (λ (ys : List Step). AreShown sc book (after_start sc last.order start) ys) own f.walked.shown);
+        shown = subst (λ (d : Order). AreShown sc book (after_start sc d start) steps) turned (subst (λ (ys : List Step). AreShown sc book (after_start sc last.order start) ys) own f.progress.shown);
       },
       f.numbered,
     )
@@ -173,7 +173,7 @@ kept-prefix sc book p a e = go p.start e
     nil : (xs : List TranscriptStep) → xs ≡ [] → steps_in xs ≡ []
     nil xs f = ap steps_in f
 
-    go : (o : Option Shown) → option_map_or (λ start. started_fault sc book p.ended (kept_as p start)) o (unstarted_fault p) ≡ None → IsPrefix sc book (order_kept p) o (steps_in p.steps)
+    go : (o : Option Shown) → option_map_or (λ start. started_fault sc book p.ended (as_transcript p start)) o (unstarted_fault p) ≡ None → IsPrefix sc book (order_kept p) o (steps_in p.steps)
     go None f =
         let empty : p.steps ≡ [] = nil-is p.steps (no-steps (is_empty p.steps) p.ended f) in
         let steps : steps_in p.steps ≡ [] = nil p.steps empty in
@@ -184,7 +184,7 @@ kept-prefix sc book p a e = go p.start e
           shown = subst (AreShown sc book _) (sym steps) tt;
         }
     go (Some start) f =
-        let found = none-if p.ended (length p.steps) (not_shown sc book (kept_as p start)) f in
+        let found = none-if p.ended (length p.steps) (not_shown sc book (as_transcript p start)) f in
         let parts = or-within (length p.steps) 0 (start_fault sc book start) (steps_fault sc book 1 (after_start sc (order_kept p) start) (clock_tests sc (order_kept p)) p.steps) (omega arith) found in
         (started sc book (order_kept p) start p.steps a parts.0 parts.1).0
 
@@ -215,7 +215,7 @@ started-room sc book start e = done-room start (start-shown sc book start e).1
 -- before the start test is settled
 pub unstarted : (sc : Scenario) (book : BookView) (p : Prefix) (b : Bool) → p.start ≡ None → (is_empty p.steps && not p.ended) ≡ b → not_kept sc book p ≡ (if b then None else not_shown_at 1 WrongTest)
 unfolding not_kept
-unstarted sc book p b e h = ap (λ (o : Option Shown). option_map_or (λ start. started_fault sc book p.ended (kept_as p start)) o (unstarted_fault p)) e ∙ ap (λ (b : Bool). if b then None else not_shown_at 1 WrongTest) h
+unstarted sc book p b e h = ap (λ (o : Option Shown). option_map_or (λ start. started_fault sc book p.ended (as_transcript p start)) o (unstarted_fault p)) e ∙ ap (λ (b : Bool). if b then None else not_shown_at 1 WrongTest) h
 
 pub unstarted-state : (sc : Scenario) (book : BookView) (order : Order) (start : Option Shown) (steps : List Step) → start ≡ None → opening sc book order ≡ resumed sc book order start steps
 unfolding resumed
@@ -226,5 +226,5 @@ pub kept-started : (sc : Scenario) (book : BookView) (p : Prefix) (start : Shown
     → not_kept sc book p ≡ started_fault sc book p.ended (record { order = order; start = start; steps = steps })
 unfolding not_kept
 kept-started sc book p start order steps e f g =
-    ap (λ (o : Option Shown). option_map_or (λ start. started_fault sc book p.ended (kept_as p start)) o (unstarted_fault p)) e
+    ap (λ (o : Option Shown). option_map_or (λ start. started_fault sc book p.ended (as_transcript p start)) o (unstarted_fault p)) e
     ∙ (λ i. started_fault sc book p.ended (record { order = sym f i; start = start; steps = sym g i }))

@@ -11,9 +11,9 @@ use Rattle.pack_defs.specs.Prices.{falls, offer, prices, prices_from}
 use Rattle.pack_defs.specs.ClockRule.{ClockState, ClockTest, FrozenAt, after_answer, exits, freezes, goes_on_air, is_active, opening_state}
 use Rattle.freeze_ledger.specs.Ledger.{LedgerView, price_of, sum_paid, with_price}
 use Rattle.freeze_ledger.proofs.LedgerLemmas.{price-other, price-own, sum-with}
-use Rattle.auction_core.specs.declared.clock.Standing.{Standing}
-use Rattle.auction_core.specs.declared.clock.Standing.TheVariants.{Active, OnAir, Frozen}
-use Rattle.auction_core.specs.Clock.{ArePaid, AreStandings, ClockView, HasRoomToPay, IsClockOf, answered_clock, most_paid, opening_standing, stands_active, stands_frozen}
+use Rattle.auction_core.specs.declared.clock.StationStatus.{StationStatus}
+use Rattle.auction_core.specs.declared.clock.StationStatus.TheVariants.{Active, OnAir, Frozen}
+use Rattle.auction_core.specs.Clock.{ArePaid, AreStatuses, ClockView, HasRoomToPay, IsClockOf, answered_clock, most_paid, opening_status, is_status_active, is_status_frozen}
 use Rattle.auction_core.proofs.ClockLemmas.{answer-standings, idle_counts, once_at, opening-standings}
 use Rattle.auction_core.proofs.Finds.{find-push_new, find_cases}
 use Rattle.pack_defs.proofs.Words.{find-push_other}
@@ -47,7 +47,7 @@ offer_at_most sc s r h =
 -- an active station is not paid
 pub active-unpaid : {sc : Scenario} {st : ClockState} {c : ClockView} (i s : ℕ) → IsClockOf sc st c → i < length sc.stations → get_or (facilities sc) i 0 ≡ s → is_active st s ≡ true → price_of s c.paid ≡ None
 active-unpaid {sc} {st} {c} i s h within at active =
-    let none = idle_counts st s (once_at i s h.standings within at) active in
+    let none = idle_counts st s (once_at i s h.station_statuses within at) active in
     h.paid.each s ∙ (elim (find_cases (λ (x : FrozenAt). eqb x.station s) st.frozen) [
       | inl no_frozen ↦ ap (option_map (λ (x : FrozenAt). x.price)) no_frozen.0
       | inr f ↦ absurd (omega (arith, none.0, f.4))
@@ -88,51 +88,51 @@ airs-paid sc st t paid h = elim (exits sc t) as (λ b. ArePaid (cond b (goes_on_
 pub answer-clock : {sc : Scenario} {st : ClockState} {c : ClockView} (i : ℕ) (t : ClockTest) (fits : Bool) → StationsAscend sc → IsClockOf sc st c → i < length sc.stations → get_or (facilities sc) i 0 ≡ t.station → is_active st t.station ≡ true →
     IsClockOf sc (after_answer sc st t fits) (answered_clock sc t i fits c)
 answer-clock {sc} {st} {c} i t true ascend h within at active = record {
-  standings = answer-standings i t true ascend h.standings within at active;
+  station_statuses = answer-standings i t true ascend h.station_statuses within at active;
   paid = airs-paid sc st t c.paid h.paid;
 }
 answer-clock {sc} {st} {c} i t false ascend h within at active = record {
-  standings = answer-standings i t false ascend h.standings within at active;
-  paid = freezes-paid sc st t c.paid h.paid (idle_counts st t.station (once_at i t.station h.standings within at) active).0;
+  station_statuses = answer-standings i t false ascend h.station_statuses within at active;
+  paid = freezes-paid sc st t c.paid h.paid (idle_counts st t.station (once_at i t.station h.station_statuses within at) active).0;
 }
 
 -- before the first round nothing is paid
-pub opening-clock : (sc : Scenario) (standings : List Standing) → AreStandings sc (opening_state sc) standings → IsClockOf sc (opening_state sc) (record { standings = standings; paid = [] })
-opening-clock sc standings are = record { standings = are; paid = record { each = λ s. refl; sum = refl } }
+pub opening-clock : (sc : Scenario) (station_statuses : List StationStatus) → AreStatuses sc (opening_state sc) station_statuses → IsClockOf sc (opening_state sc) (record { station_statuses = station_statuses; paid = [] })
+opening-clock sc station_statuses are = record { station_statuses = are; paid = record { each = λ s. refl; sum = refl } }
 
-pub opening-made : (sc : Scenario) (xs : List Standing) (paid : List (ℕ × ℕ)) → xs ≡ map (opening_standing sc) sc.stations → paid ≡ [] → StationsAscend sc → IsClockOf sc (opening_state sc) (record { standings = xs; paid = paid })
+pub opening-made : (sc : Scenario) (xs : List StationStatus) (paid : List (ℕ × ℕ)) → xs ≡ map (opening_status sc) sc.stations → paid ≡ [] → StationsAscend sc → IsClockOf sc (opening_state sc) (record { station_statuses = xs; paid = paid })
 opening-made sc xs paid same none ascend =
-    let made : List Standing → List (ℕ × ℕ) → ClockView = λ ys es. record { standings = ys; paid = es } in
-    subst (IsClockOf sc (opening_state sc)) (sym (ap₂ made same none)) (opening-clock sc (map (opening_standing sc) sc.stations) (opening-standings sc ascend))
+    let made : List StationStatus → List (ℕ × ℕ) → ClockView = λ ys es. record { station_statuses = ys; paid = es } in
+    subst (IsClockOf sc (opening_state sc)) (sym (ap₂ made same none)) (opening-clock sc (map (opening_status sc) sc.stations) (opening-standings sc ascend))
 
 -- a clock view with these standings and this payment added
-abbrev pub paying : List Standing → List (ℕ × ℕ) → ℕ → ℕ → ClockView
-paying xs paid s price = record { standings = xs; paid = with_price s price paid }
+abbrev pub paying : List StationStatus → List (ℕ × ℕ) → ℕ → ℕ → ClockView
+paying xs paid s price = record { station_statuses = xs; paid = with_price s price paid }
 
-pub frozen-view : (xs : List Standing) (paid : List (ℕ × ℕ)) {s t p q : ℕ} → s ≡ t → p ≡ q → paying xs paid s p ≡ paying xs paid t q
+pub frozen-view : (xs : List StationStatus) (paid : List (ℕ × ℕ)) {s t p q : ℕ} → s ≡ t → p ≡ q → paying xs paid s p ≡ paying xs paid t q
 frozen-view xs paid e f = ap₂ (paying xs paid) e f
 
 -- ---- the room
 
 -- an active station needs room
-pub room-some : (xs : List Standing) (i : ℕ) → i < length xs → get_or xs i Active ≡ Active → 1 ≤ count_by stands_active xs
+pub room-some : (xs : List StationStatus) (i : ℕ) → i < length xs → get_or xs i Active ≡ Active → 1 ≤ count_by is_status_active xs
 room-some xs i within active =
-    let moved = sum_by-set (λ x. cond (stands_active x) 1 0) xs i (OnAir 0) Active within in
-    let own : cond {A = ℕ} (stands_active (get_or xs i Active)) 1 0 ≡ 1 = ap (λ x. cond (stands_active x) 1 0) active in
+    let moved = sum_by-set (λ x. cond (is_status_active x) 1 0) xs i (OnAir 0) Active within in
+    let own : cond {A = ℕ} (is_status_active (get_or xs i Active)) 1 0 ≡ 1 = ap (λ x. cond (is_status_active x) 1 0) active in
     omega (arith, moved, own)
 
 -- replacing an active standing leaves one active station fewer, and one frozen station more if the new standing is frozen
-set-counts : (xs : List Standing) (i : ℕ) (y : Standing) → i < length xs → get_or xs i Active ≡ Active → stands_active y ≡ false → (count_by stands_active (set xs i y) + 1 ≡ count_by stands_active xs) × (count_by stands_frozen (set xs i y) ≡ count_by stands_frozen xs + cond (stands_frozen y) 1 0)
+set-counts : (xs : List StationStatus) (i : ℕ) (y : StationStatus) → i < length xs → get_or xs i Active ≡ Active → is_status_active y ≡ false → (count_by is_status_active (set xs i y) + 1 ≡ count_by is_status_active xs) × (count_by is_status_frozen (set xs i y) ≡ count_by is_status_frozen xs + cond (is_status_frozen y) 1 0)
 set-counts xs i y within active other =
-    let asked = sum_by-set (λ x. cond (stands_active x) 1 0) xs i y Active within in
-    let frozen = sum_by-set (λ x. cond (stands_frozen x) 1 0) xs i y Active within in
-    let one : cond {A = ℕ} (stands_active (get_or xs i Active)) 1 0 ≡ 1 = ap (λ x. cond (stands_active x) 1 0) active in
-    let none : cond {A = ℕ} (stands_frozen (get_or xs i Active)) 1 0 ≡ 0 = ap (λ x. cond (stands_frozen x) 1 0) active in
-    let off : cond {A = ℕ} (stands_active y) 1 0 ≡ 0 = ap (λ b. cond b 1 0) other in
+    let asked = sum_by-set (λ x. cond (is_status_active x) 1 0) xs i y Active within in
+    let frozen = sum_by-set (λ x. cond (is_status_frozen x) 1 0) xs i y Active within in
+    let one : cond {A = ℕ} (is_status_active (get_or xs i Active)) 1 0 ≡ 1 = ap (λ x. cond (is_status_active x) 1 0) active in
+    let none : cond {A = ℕ} (is_status_frozen (get_or xs i Active)) 1 0 ≡ 0 = ap (λ x. cond (is_status_frozen x) 1 0) active in
+    let off : cond {A = ℕ} (is_status_active y) 1 0 ≡ 0 = ap (λ b. cond b 1 0) other in
     (omega (arith, asked, one, off), omega (arith, frozen, none))
 
 -- an active station goes on air
-pub air-room : (xs : List Standing) (l : LedgerView) (i r : ℕ) → HasRoomToPay xs l → i < length xs → get_or xs i Active ≡ Active → HasRoomToPay (set xs i (OnAir r)) l
+pub air-room : (xs : List StationStatus) (l : LedgerView) (i r : ℕ) → HasRoomToPay xs l → i < length xs → get_or xs i Active ≡ Active → HasRoomToPay (set xs i (OnAir r)) l
 air-room xs l i r h within active =
     let counts = set-counts xs i (OnAir r) within active refl in
     let room = h.room in
@@ -140,7 +140,7 @@ air-room xs l i r h within active =
     record { room = omega (arith, room, counts.0); bound = omega (arith, bound, counts.1) }
 
 -- an active station is frozen
-pub freeze-room : (xs : List Standing) (old new : LedgerView) (i r s price : ℕ) → HasRoomToPay xs old → i < length xs → get_or xs i Active ≡ Active → price ≤ most_paid → new.paid ≡ with_price s price old.paid → new.spare + 1 ≡ old.spare → HasRoomToPay (set xs i (Frozen r)) new
+pub freeze-room : (xs : List StationStatus) (old new : LedgerView) (i r s price : ℕ) → HasRoomToPay xs old → i < length xs → get_or xs i Active ≡ Active → price ≤ most_paid → new.paid ≡ with_price s price old.paid → new.spare + 1 ≡ old.spare → HasRoomToPay (set xs i (Frozen r)) new
 freeze-room xs old new i r s price h within active small paid spare =
     let counts = set-counts xs i (Frozen r) within active refl in
     let room = h.room in
@@ -149,15 +149,15 @@ freeze-room xs old new i r s price h within active small paid spare =
     record { room = omega (arith, room, counts.0, spare); bound = omega (arith, bound, counts.1, sum, small) }
 
 -- one more price stays within 64 bits
-pub price-fits : (xs : List Standing) (l : LedgerView) (price : ℕ) → HasRoomToPay xs l → length xs ≤ 8192 → price ≤ most_paid → sum_paid l.paid + price < 2 ^ 64
+pub price-fits : (xs : List StationStatus) (l : LedgerView) (price : ℕ) → HasRoomToPay xs l → length xs ≤ 8192 → price ≤ most_paid → sum_paid l.paid + price < 2 ^ 64
 price-fits xs l price h few small =
     let bound = h.bound in
-    let most = count_by-le-length stands_frozen xs in
+    let most = count_by-le-length is_status_frozen xs in
     omega (arith, bound, most, few, small)
 
 -- at the opening
-pub opening-room : (xs : List Standing) (l : LedgerView) (n : ℕ) → length xs ≤ n → l.paid ≡ [] → n ≤ l.spare → HasRoomToPay xs l
+pub opening-room : (xs : List StationStatus) (l : LedgerView) (n : ℕ) → length xs ≤ n → l.paid ≡ [] → n ≤ l.spare → HasRoomToPay xs l
 opening-room xs l n many none room =
-    let most = count_by-le-length stands_active xs in
+    let most = count_by-le-length is_status_active xs in
     let sum : sum_paid l.paid ≡ 0 = ap sum_paid none in
     record { room = omega (arith, most, many, room); bound = omega (arith, sum) }

@@ -36,12 +36,12 @@ module _ (xs : List Station) (up : IsStrictlyIncreasing (map (λ x. x.id) xs)) (
   pub place-found : (r : Result ℕ ℕ) → IsSearchInRange r (length xs) → IsBinarySearchResult (λ (x : Station). nat_cmp x.id id) xs r →
       MatchOption (result_ok r) (is_in (map (λ (x : Station). x.id) xs) id ≡ false) (λ i. (i < length xs) × (get_or (map (λ (x : Station). x.id) xs) i 0 ≡ id))
   place-found (Ok i) within equal = (within, get_or-map (λ (x : Station). x.id) xs i blank 0 within ∙ ranked _ id _ (sym (equal blank)))
-  place-found (Err i) within parted = false_from_ne_true _ (λ there.
+  place-found (Err i) within is_split = false_from_ne_true _ (λ there.
       let (k, inside, is) = is_in-gives (map (λ (x : Station). x.id) xs) id there in
       let n = length-map xs (λ (x : Station). x.id) in
       let here : k < length xs = omega (arith, n) in
       let at = get_or-map (λ (x : Station). x.id) xs k blank id here in
       elim (cases_lt k i) [
-        | inl less ↦ let below : (get_or xs k blank).id < id = ranked _ id _ (sym ((parted comparisons_rise).0 k blank (omega arith) less)) in omega arith
-        | inr from ↦ let above : id < (get_or xs k blank).id = ranked _ id _ (sym ((parted comparisons_rise).1 k blank from here)) in omega arith
+        | inl less ↦ let below : (get_or xs k blank).id < id = ranked _ id _ (sym ((is_split comparisons_rise).0 k blank (omega arith) less)) in omega arith
+        | inr from ↦ let above : id < (get_or xs k blank).id = ranked _ id _ (sym ((is_split comparisons_rise).1 k blank from here)) in omega arith
       ])

@@ -19,17 +19,17 @@ use Rattle.pack_defs.proofs.Chains.{ascending-filter}
 use Rattle.assign_check.specs.declared.fault.MapFault.TheVariants.{Violates}
 use Rattle.assign_check.specs.Fault.{extra, first_fault, is_violated, missing, off_domain, violation}
 use Rattle.assign_check.proofs.Faultless.{faultless, on-stations}
-use Rattle.cert_types.specs.Query.{IsQuery as MayBeAsked, has_channels, has_others, is_on_domains}
+use Rattle.cert_types.specs.Query.{IsQuery as MayBeAsked, has_channels, places_others, is_on_domains}
 use Rattle.cert_types.proofs.QueryLaws.{query-of}
 use Rattle.auction_core.specs.declared.record.Shown.{Shown}
 use Rattle.auction_core.specs.declared.record.Shown.TheVariants.{Empty, NoChannel, Same}
-use Rattle.auction_core.specs.Clockwork.{ClockworkView, IsClockwork}
-use Rattle.auction_core.specs.Course.{CourseView, core_state, is_roomy}
+use Rattle.auction_core.specs.QuerySession.{QuerySessionView, IsQuerySession}
+use Rattle.auction_core.specs.ClockRun.{ClockRunView, core_state, is_roomy}
 use Rattle.auction_core.specs.Rule.{IsQueryNext as IsNext, KeepsTheRule}
 use Rattle.auction_core.specs.Setup.{IsOfAuction, SetupView}
-use Rattle.auction_core.specs.State.{CoreState, answered, first_task, go_on, has_ended, is_same, past_first, queries_left, restricted, settled, settled_unasked, shows_room, start_task, start_unasked, started, task_of, test_task}
+use Rattle.auction_core.specs.State.{CoreState, answered, first_task, advance_to_query, has_ended, is_same, after_first_test, queries_left, restricted, settled, settled_unasked, shows_room, start_task, start_unasked, started, task_of, test_task}
 use Rattle.auction_core.proofs.Answers.{component-ascending, filter-in, in-filter}
-use Rattle.auction_core.proofs.ClockworkLemmas.{first_state, go_on-fewer, started-start}
+use Rattle.auction_core.proofs.QuerySessionLemmas.{first_state, go_on-fewer, started-start}
 use Rattle.auction_core.proofs.Keeps.{go-on-start, task-is}
 use Rattle.auction_core.proofs.Kept.{IsAtStart, IsUnderWay, Stands, match-false, match-true, rule-kept}
 use Rattle.auction_core.proofs.Merged.{in-component}
@@ -57,7 +57,7 @@ start-channels sc book h =
     ] in
     none-bare (λ s. is_empty (domain_of book s)) (start_set sc) (outer (is_empty (start_set sc)) h)
 
-from-parts : (book : BookView) (n r : ℕ) (o : Option ℕ) (set : List ℕ) (last : List (ℕ × ℕ)) → is_ascending set ≡ true → has_channels book set ≡ true → is_on_domains book set last ≡ true → violation book last ≡ None → has_others o set last ≡ true → MayBeAsked book (record { number = n; round = r; station = o; set = set; last = last })
+from-parts : (book : BookView) (n r : ℕ) (o : Option ℕ) (set : List ℕ) (last : List (ℕ × ℕ)) → is_ascending set ≡ true → has_channels book set ≡ true → is_on_domains book set last ≡ true → violation book last ≡ None → places_others o set last ≡ true → MayBeAsked book (record { number = n; round = r; station = o; set = set; last = last })
 from-parts book n r o set last a c d v h = query-of book (record { number = n; round = r; station = o; set = set; last = last }) (record { rises = a; channels = c; domains = d; clean = v; others = h })
 
 -- no pair has both its entries in an empty map
@@ -150,7 +150,7 @@ test-query sc book state t a clean stations own =
     let on : is_on_domains book set (restricted state.map set) ≡ true = list_all-from (λ (x : ℕ × ℕ). is_in set x.0 && is_in (domain_of book x.0) x.1) (restricted state.map set) (λ x listed.
     let parts = Contains-from_filter (λ (x : ℕ × ℕ). is_in set x.0) state.map x listed in
     and_from (is_in set x.0) (is_in (domain_of book x.0) x.1) parts.1 (is_in-from (domain_of book x.0) x.1 (clean.on_domain x parts.0))) in
-    let others : has_others (Some t.station) set (restricted state.map set) ≡ true = list_all-from (λ s. (s == t.station) || has_station (restricted state.map set) s) set (λ s listed. asked-there sc book state t set s stations refl (is_in-from set s listed)) in
+    let others : places_others (Some t.station) set (restricted state.map set) ≡ true = list_all-from (λ s. (s == t.station) || has_station (restricted state.map set) s) set (λ s listed. asked-there sc book state t set s stations refl (is_in-from set s listed)) in
     from-parts book state.number t.round (Some t.station) set (restricted state.map set) rises channels on (none-violates book (restricted state.map set) (part-clean book state.map set clean)) others
 
 -- ---- the current query
@@ -178,29 +178,29 @@ task-query sc book state a k =
     subst (λ o. MatchOption o ⊤ (MayBeAsked book)) (sym (task-is sc book state state.start state.left refl refl)) (go state.start state.left refl refl (rule-kept sc book state k).stands)
 
 -- the same for a query session
-pub clockwork-query : (s : SetupView) (c : CourseView) (number : ℕ) (v : ClockworkView) → IsClockwork s c number → record { scenario = s.scenario; book = s.book; state = core_state s c number; ready = is_roomy s c } ≡ v → MatchOption (task_of v.scenario v.book v.state) ⊤ (MayBeAsked v.book)
-clockwork-query s c number v h e =
-    subst (λ (w : ClockworkView). MatchOption (task_of w.scenario w.book w.state) ⊤ (MayBeAsked w.book)) e
-    (task-query s.scenario s.book (core_state s c number) h.course.sound.auction h.rule)
+pub query_session-query : (s : SetupView) (c : ClockRunView) (number : ℕ) (v : QuerySessionView) → IsQuerySession s c number → record { scenario = s.scenario; book = s.book; state = core_state s c number; ready = is_roomy s c } ≡ v → MatchOption (task_of v.scenario v.book v.state) ⊤ (MayBeAsked v.book)
+query_session-query s c number v h e =
+    subst (λ (w : QuerySessionView). MatchOption (task_of w.scenario w.book w.state) ⊤ (MayBeAsked w.book)) e
+    (task-query s.scenario s.book (core_state s c number) h.clock_run.sound.auction h.rule)
 
 -- ---- the number of the query
 
-go_on-number : (sc : Scenario) (book : BookView) (ts : List ClockTest) (state : CoreState) → (go_on sc book ts state).number ≡ state.number
+go_on-number : (sc : Scenario) (book : BookView) (ts : List ClockTest) (state : CoreState) → (advance_to_query sc book ts state).number ≡ state.number
 go_on-number sc book [] state = refl
 go_on-number sc book (t ∷ ts) state =
     let at : CoreState = record state { left = t ∷ ts } in
-    let inner : (o : Option Shown) → (option_map_or (go_on sc book ts) (option_map (settled sc state t) o) at).number ≡ state.number = λ o. elim o as (λ o. (option_map_or (go_on sc book ts) (option_map (settled sc state t) o) at).number ≡ state.number) [
+    let inner : (o : Option Shown) → (option_map_or (advance_to_query sc book ts) (option_map (settled sc state t) o) at).number ≡ state.number = λ o. elim o as (λ o. (option_map_or (advance_to_query sc book ts) (option_map (settled sc state t) o) at).number ≡ state.number) [
       | None ↦ refl
       | Some shown ↦ go_on-number sc book ts (settled sc state t shown)
     ] in
-    elim (is_active state.clock t.station) as (λ b. (option_map_or (go_on sc book ts) (cond b (option_map (settled sc state t) (settled_unasked sc book state t)) (Some state)) at).number ≡ state.number) [
+    elim (is_active state.clock t.station) as (λ b. (option_map_or (advance_to_query sc book ts) (cond b (option_map (settled sc state t) (settled_unasked sc book state t)) (Some state)) at).number ≡ state.number) [
       | true ↦ inner (settled_unasked sc book state t)
       | false ↦ go_on-number sc book ts state
     ]
 
 started-number : (sc : Scenario) (book : BookView) (state : CoreState) (shown : Shown) → (started sc book state shown).number ≡ state.number
 started-number sc book state shown =
-    elim (shows_room shown) as (λ b. (cond b (go_on sc book (clock_tests sc state.order) (first_state state shown)) (record state { start = Some shown })).number ≡ state.number) [
+    elim (shows_room shown) as (λ b. (cond b (advance_to_query sc book (clock_tests sc state.order) (first_state state shown)) (record state { start = Some shown })).number ≡ state.number) [
       | true ↦ go_on-number sc book (clock_tests sc state.order) (first_state state shown)
       | false ↦ refl
     ]
@@ -209,18 +209,18 @@ started-number sc book state shown =
 pub answered-number : (sc : Scenario) (book : BookView) (state : CoreState) (shown : Shown) → (answered sc book state shown).number ≡ state.number + 1
 answered-number sc book state shown =
     let next : CoreState = record state { noted = []; number = state.number + 1 } in
-    let past : (l : List ClockTest) → (past_first sc book next shown l).number ≡ state.number + 1 = λ l. elim l as (λ l. (past_first sc book next shown l).number ≡ state.number + 1) [
+    let test_history : (l : List ClockTest) → (after_first_test sc book next shown l).number ≡ state.number + 1 = λ l. elim l as (λ l. (after_first_test sc book next shown l).number ≡ state.number + 1) [
       | [] ↦ refl
       | t ∷ ts ↦ go_on-number sc book ts (settled sc next t shown)
     ] in
-    elim (is_none state.start) as (λ b. (cond b (started sc book next shown) (past_first sc book next shown state.left)).number ≡ state.number + 1) [
+    elim (is_none state.start) as (λ b. (cond b (started sc book next shown) (after_first_test sc book next shown state.left)).number ≡ state.number + 1) [
       | true ↦ started-number sc book next shown
-      | false ↦ past state.left
+      | false ↦ test_history state.left
     ]
 
 started-most : (sc : Scenario) (book : BookView) (state : CoreState) (shown : Shown) → length (started sc book state shown).left ≤ length (clock_tests sc state.order) + length state.left
 started-most sc book state shown =
-    elim (shows_room shown) as (λ b. length (cond b (go_on sc book (clock_tests sc state.order) (first_state state shown)) (record state { start = Some shown })).left ≤ length (clock_tests sc state.order) + length state.left) [
+    elim (shows_room shown) as (λ b. length (cond b (advance_to_query sc book (clock_tests sc state.order) (first_state state shown)) (record state { start = Some shown })).left ≤ length (clock_tests sc state.order) + length state.left) [
       | true ↦ let few = go_on-fewer sc book (clock_tests sc state.order) (first_state state shown) in omega (arith, few)
       | false ↦ omega arith
     ]
@@ -230,18 +230,18 @@ started-most sc book state shown =
 pub answered-fewer : (sc : Scenario) (book : BookView) (state : CoreState) (shown : Shown) → has_ended state ≡ false → queries_left sc (answered sc book state shown) < queries_left sc state
 answered-fewer sc book state shown on =
     let next : CoreState = record state { noted = []; number = state.number + 1 } in
-    let go : (o : Option Shown) (l : List ClockTest) → state.start ≡ o → state.left ≡ l → cond (is_none o) false (is_empty l) ≡ false → queries_left sc (cond (is_none o) (started sc book next shown) (past_first sc book next shown l)) < length l + cond (is_none o) (length (clock_tests sc state.order) + 1) 0 = λ o l. elim o as (λ o. state.start ≡ o → state.left ≡ l → cond (is_none o) false (is_empty l) ≡ false → queries_left sc (cond (is_none o) (started sc book next shown) (past_first sc book next shown l)) < length l + cond (is_none o) (length (clock_tests sc state.order) + 1) 0) [
+    let go : (o : Option Shown) (l : List ClockTest) → state.start ≡ o → state.left ≡ l → cond (is_none o) false (is_empty l) ≡ false → queries_left sc (cond (is_none o) (started sc book next shown) (after_first_test sc book next shown l)) < length l + cond (is_none o) (length (clock_tests sc state.order) + 1) 0 = λ o l. elim o as (λ o. state.start ≡ o → state.left ≡ l → cond (is_none o) false (is_empty l) ≡ false → queries_left sc (cond (is_none o) (started sc book next shown) (after_first_test sc book next shown l)) < length l + cond (is_none o) (length (clock_tests sc state.order) + 1) 0) [
       | None ↦ λ e f k.
           let some : is_none (started sc book next shown).start ≡ false = ap is_none (started-start sc book next shown) in
           let rest : cond (is_none (started sc book next shown).start) (length (clock_tests sc (started sc book next shown).order) + 1) 0 ≡ 0 = ap (λ b. cond b (length (clock_tests sc (started sc book next shown).order) + 1) 0) some in
           let few = started-most sc book next shown in
           let old : length state.left ≡ length l = ap length f in
           omega (arith, rest, few, old)
-      | Some start ↦ elim l as (λ l. state.start ≡ Some start → state.left ≡ l → is_empty l ≡ false → queries_left sc (past_first sc book next shown l) < length l + 0) [
+      | Some start ↦ elim l as (λ l. state.start ≡ Some start → state.left ≡ l → is_empty l ≡ false → queries_left sc (after_first_test sc book next shown l) < length l + 0) [
         | [] ↦ λ e f k. absurd (true≢false k)
         | t ∷ ts ↦ λ e f k.
-            let same : is_none (go_on sc book ts (settled sc next t shown)).start ≡ false = ap is_none ((go-on-start sc book ts (settled sc next t shown)).0 ∙ e) in
-            let after : CoreState = go_on sc book ts (settled sc next t shown) in
+            let same : is_none (advance_to_query sc book ts (settled sc next t shown)).start ≡ false = ap is_none ((go-on-start sc book ts (settled sc next t shown)).0 ∙ e) in
+            let after : CoreState = advance_to_query sc book ts (settled sc next t shown) in
             let rest : cond (is_none after.start) (length (clock_tests sc after.order) + 1) 0 ≡ 0 = ap (λ b. cond b (length (clock_tests sc after.order) + 1) 0) same in
             let few = go_on-fewer sc book ts (settled sc next t shown) in
             omega (arith, rest, few)

@@ -33,7 +33,7 @@ use Rattle.auction_core.specs.declared.record.Shown.TheVariants.{Empty, Fits, Sa
 use Rattle.auction_core.specs.State.{CoreState, restricted, test_task, shows_room, delta_of, settled, settled_unasked}
 use Rattle.auction_core.specs.Backed.{is_undecided, IsValidOf, IsSettledBy, IsStepShown}
 use Rattle.auction_core.specs.Rule.{IsAuction}
-use Rattle.auction_core.specs.Walked.{FitsStand}
+use Rattle.auction_core.specs.ClockProgress.{FitsStayClean}
 use Rattle.auction_core.proofs.Merged.{restricted-ascending, IsTest, merged-clean, merged-stations}
 use Rattle.auction_core.proofs.Answers.{filter-in, in-filter, component-ascending, clean-fits}
 use Rattle.auction_core.proofs.Sets.{step_of, delta-fits, unasked-cases}
@@ -144,7 +144,7 @@ no-fit sc book state t shown r h u out =
     by-query (Undecided receipts) k u out = cc
 
 -- if a test is decided, its answer is the rule's
-pub room : (sc : Scenario) (book : BookView) (state : CoreState) (t : ClockTest) (shown : Shown) → IsReady sc book state t.station → FitsStand sc book state → is_active state.clock t.station ≡ true → IsStepShown sc book state (step_of t shown) → is_undecided shown ≡ false → fits book (asked_set sc state.clock t.station) ≡ shows_room shown
+pub room : (sc : Scenario) (book : BookView) (state : CoreState) (t : ClockTest) (shown : Shown) → IsReady sc book state t.station → FitsStayClean sc book state → is_active state.clock t.station ≡ true → IsStepShown sc book state (step_of t shown) → is_undecided shown ≡ false → fits book (asked_set sc state.clock t.station) ≡ shows_room shown
 room sc book state t shown r f active h u =
     ⊎_elim
     (λ yes. fit-room sc book state t (delta_of state.steps t.station shown) r (delta-fits sc book state t shown f active h yes) ∙ sym yes)
@@ -195,7 +195,7 @@ map-fit sc book state t delta r e =
     go (exits sc t)
 
 -- the map after a settled test is clean, with exactly the stations on air
-pub new-map : (sc : Scenario) (book : BookView) (state : CoreState) (t : ClockTest) (shown : Shown) → IsReady sc book state t.station → FitsStand sc book state → is_active state.clock t.station ≡ true → IsStepShown sc book state (step_of t shown) → IsOf sc book (settled sc state t shown).clock (settled sc state t shown).map
+pub new-map : (sc : Scenario) (book : BookView) (state : CoreState) (t : ClockTest) (shown : Shown) → IsReady sc book state t.station → FitsStayClean sc book state → is_active state.clock t.station ≡ true → IsStepShown sc book state (step_of t shown) → IsOf sc book (settled sc state t shown).clock (settled sc state t shown).map
 new-map sc book state t shown r f active h =
     let delta : List (ℕ × ℕ) = delta_of state.steps t.station shown in
     let at : Bool → Type 0 = λ b. IsOf sc book (after_answer sc state.clock t b) (if is_on_air (after_answer sc state.clock t b) t.station then overlaid state.map delta else state.map) in

@@ -1,4 +1,4 @@
--- Whether the next test asks about the same stations as its station's test one round before, by the labels. For `course::is_same`.
+-- Whether the next test asks about the same stations as its station's test one round before, by the labels. For `clock_run::is_same`.
 use Rattle.std.proofs.Common.{◌≡◌, ◌∙◌, ℕ, zero, suc, ◌+◌, ◌-◌, ◌≤◌, true, false, not, cond, ◌&&◌, ◌==◌, eqb, List, [], ◌∷◌, ◌++◌, map, get_or, Some, None, refl, sym, ap, subst, arith}
 use Rattle.std.specs.Option.{option_map_or}
 use Rattle.std.proofs.lemmas.Bool.{ne_eqb}
@@ -6,29 +6,29 @@ use Rattle.pack_defs.specs.declared.scenario.Scenario.{Scenario}
 use Rattle.pack_defs.specs.Book.{BookView}
 use Rattle.pack_defs.specs.Lists.{same_list}
 use Rattle.pack_defs.specs.Prices.{last_round}
-use Rattle.pack_defs.specs.ClockRule.{ClockState, ClockTest, after_answer, after_test, asked_from, bidders_in_turn, clock_tests, is_active, opening_state, tests_of}
+use Rattle.pack_defs.specs.ClockRule.{ClockState, ClockTest, after_answer, after_test, asked_from, bidders_in_order, clock_tests, is_active, opening_state, tests_of}
 use Rattle.auction_core.specs.declared.record.Step.{Step}
 use Rattle.auction_core.specs.Backed.{shown_start, undecided_of}
-use Rattle.auction_core.specs.Course.{CourseView, IsCourse, IsDue, core_state, next_test, tests_left}
-use Rattle.auction_core.specs.Parts.{last_seen, touches_since}
+use Rattle.auction_core.specs.ClockRun.{ClockRunView, IsClockRun, IsDue, core_state, next_test, tests_left}
+use Rattle.auction_core.specs.ComponentLabels.{last_seen, touches_since}
 use Rattle.auction_core.specs.Setup.{IsSetupSound, SetupView}
 use Rattle.auction_core.specs.State.{is_same, set_in, shows_room, start_fits, test_of, tested_set}
-use Rattle.auction_core.proofs.CourseLemmas.{IsAt, sound-auction}
-use Rattle.auction_core.proofs.CourseTests.{due-left}
+use Rattle.auction_core.proofs.ClockRunLemmas.{IsAt, sound-auction}
+use Rattle.auction_core.proofs.ClockRunTests.{due-left}
 use Rattle.auction_core.proofs.Since.{same-so-far}
 
 -- ---- from round 2 on
 
-pub same-later : (s : SetupView) (c : CourseView) (i : ℕ) → IsSetupSound s → start_fits c.start ≡ true → IsCourse s c → IsDue s c → IsAt s c i → 2 ≤ c.round →
-    is_same s.scenario s.book (core_state s c 0) (next_test s c) ≡ not (touches_since s.book c.past.parts (next_test s c).station (get_or c.past.seen i 0 + 1))
+pub same-later : (s : SetupView) (c : ClockRunView) (i : ℕ) → IsSetupSound s → start_fits c.start ≡ true → IsClockRun s c → IsDue s c → IsAt s c i → 2 ≤ c.round →
+    is_same s.scenario s.book (core_state s c 0) (next_test s c) ≡ not (touches_since s.book c.test_history.component_labels (next_test s c).station (get_or c.test_history.seen i 0 + 1))
 same-later s c i l running h due at late =
     let sc = s.scenario in
     let t = next_test s c in
     let g = h.rule running in
-    let split : clock_tests sc s.order ≡ g.before ++ t ∷ tests_left s c.round (c.turn + 1) = sym g.parts ∙ ap (λ z. g.before ++ z) (due-left s c running h due) in
-    let seen : get_or c.past.seen i 0 ≡ last_seen sc (opening_state sc) c.past.steps t.station 0 = h.past.seen i at.within ∙ ap (λ f. last_seen sc (opening_state sc) c.past.steps f 0) at.station in
-    same-so-far sc s.book (core_state s c 0) g.before (tests_left s c.round (c.turn + 1)) t (shown_start c.start) c.past.parts (sound-auction s l) split g.walked.clock g.walked.tests refl due.active h.past.parts late
-    ∙ ap (λ n. not (touches_since s.book c.past.parts t.station (n + 1))) (sym seen)
+    let split : clock_tests sc s.order ≡ g.before ++ t ∷ tests_left s c.round (c.place_in_round + 1) = sym g.all_tests ∙ ap (λ z. g.before ++ z) (due-left s c running h due) in
+    let seen : get_or c.test_history.seen i 0 ≡ last_seen sc (opening_state sc) c.test_history.steps t.station 0 = h.test_history.seen i at.within ∙ ap (λ f. last_seen sc (opening_state sc) c.test_history.steps f 0) at.station in
+    same-so-far sc s.book (core_state s c 0) g.before (tests_left s c.round (c.place_in_round + 1)) t (shown_start c.start) c.test_history.component_labels (sound-auction s l) split g.progress.clock g.progress.tests refl due.active h.test_history.component_labels late
+    ∙ ap (λ n. not (touches_since s.book c.test_history.component_labels t.station (n + 1))) (sym seen)
 
 -- ---- in round 1 there is no earlier test
 
@@ -69,12 +69,12 @@ none-of-round sc book c (x ∷ xs) s h =
     ap (λ b. cond (b && (x.station == s)) (Some (tested_set sc book c s)) (set_in sc book (after_answer sc c (test_of x) (shows_room x.shown)) xs 0 s)) later
     ∙ none-of-round sc book (after_answer sc c (test_of x) (shows_room x.shown)) xs s h.1
 
-pub same-first : (s : SetupView) (c : CourseView) → start_fits c.start ≡ true → IsCourse s c → c.round ≡ 1 → is_same s.scenario s.book (core_state s c 0) (next_test s c) ≡ false
+pub same-first : (s : SetupView) (c : ClockRunView) → start_fits c.start ≡ true → IsClockRun s c → c.round ≡ 1 → is_same s.scenario s.book (core_state s c 0) (next_test s c) ≡ false
 same-first s c running h first =
     let sc = s.scenario in
     let f : ℕ = (next_test s c).station in
     let g = h.rule running in
-    let before : AreLate g.before = late-first g.before _ (subst AreLate (sym g.parts) (late-tests (bidders_in_turn sc s.order) 1 (last_round sc) (omega arith))) in
-    let steps : AreLate (map test_of c.past.steps) = subst AreLate (sym g.walked.tests) (late-asked sc s.book (undecided_of c.past.steps) g.before (opening_state sc) before) in
-    let none : set_in sc s.book (opening_state sc) c.past.steps (c.round - 1) f ≡ None = ap (λ r. set_in sc s.book (opening_state sc) c.past.steps (r - 1) f) first ∙ none-of-round sc s.book (opening_state sc) c.past.steps f steps in
+    let before : AreLate g.before = late-first g.before _ (subst AreLate (sym g.all_tests) (late-tests (bidders_in_order sc s.order) 1 (last_round sc) (omega arith))) in
+    let steps : AreLate (map test_of c.test_history.steps) = subst AreLate (sym g.progress.tests) (late-asked sc s.book (undecided_of c.test_history.steps) g.before (opening_state sc) before) in
+    let none : set_in sc s.book (opening_state sc) c.test_history.steps (c.round - 1) f ≡ None = ap (λ r. set_in sc s.book (opening_state sc) c.test_history.steps (r - 1) f) first ∙ none-of-round sc s.book (opening_state sc) c.test_history.steps f steps in
     ap (λ o. option_map_or (same_list (tested_set sc s.book (core_state s c 0).clock f)) o false) none

@@ -23,7 +23,7 @@ use Rattle.auction_core.specs.declared.record.Step.{Step}
 use Rattle.auction_core.specs.State.{CoreState, test_of, shows_room, fit_of, last_fit, delta_of, settled, tested_set, set_in, is_same, settled_unasked, restricted, test_task}
 use Rattle.auction_core.specs.Backed.{IsSettledBy, IsStepShown}
 use Rattle.auction_core.specs.Rule.{IsAuction}
-use Rattle.auction_core.specs.Walked.{FitsStand, IsFitKept, clock_after}
+use Rattle.auction_core.specs.ClockProgress.{FitsStayClean, IsFitKept, clock_after}
 use Rattle.auction_core.proofs.Answers.{filter-in, component-ascending}
 use Rattle.auction_core.proofs.Overlay.{its-channel}
 use Rattle.auction_core.proofs.Merged.{interferes-back}
@@ -243,18 +243,18 @@ within-fit book set m d fit z h =
 
 -- ---- earlier fits still work
 
--- `FitsStand` depends on the clock, the map and the steps only
-pub fits-stand-same : (sc : Scenario) (book : BookView) (a b : CoreState) → a.clock ≡ b.clock → a.map ≡ b.map → a.steps ≡ b.steps → FitsStand sc book a → FitsStand sc book b
+-- `FitsStayClean` depends on the clock, the map and the steps only
+pub fits-stand-same : (sc : Scenario) (book : BookView) (a b : CoreState) → a.clock ≡ b.clock → a.map ≡ b.map → a.steps ≡ b.steps → FitsStayClean sc book a → FitsStayClean sc book b
 fits-stand-same sc book a b e f g h =
     let at : ClockState → List (ℕ × ℕ) → List Step → CoreState = λ c m xs. record b { clock = c; map = m; steps = xs } in
-    let moved : FitsStand sc book (at a.clock a.map a.steps) = record { clock = h.clock; grows = h.grows; fits = h.fits } in
-    let done : FitsStand sc book (at b.clock b.map b.steps) = subst (λ xs. FitsStand sc book (at b.clock b.map xs)) g (subst (λ m. FitsStand sc book (at b.clock m a.steps)) f (subst (λ c. FitsStand sc book (at c a.map a.steps)) e moved)) in
+    let moved : FitsStayClean sc book (at a.clock a.map a.steps) = record { clock = h.clock; grows = h.grows; fits = h.fits } in
+    let done : FitsStayClean sc book (at b.clock b.map b.steps) = subst (λ xs. FitsStayClean sc book (at b.clock b.map xs)) g (subst (λ m. FitsStayClean sc book (at b.clock m a.steps)) f (subst (λ c. FitsStayClean sc book (at c a.map a.steps)) e moved)) in
     record { clock = done.clock; grows = done.grows; fits = done.fits }
 
--- `FitsStand` before the first step
-pub fits-stand-first : (sc : Scenario) (book : BookView) (state : CoreState) → state.clock ≡ opening_state sc → state.steps ≡ [] → FitsStand sc book state
+-- `FitsStayClean` before the first step
+pub fits-stand-first : (sc : Scenario) (book : BookView) (state : CoreState) → state.clock ≡ opening_state sc → state.steps ≡ [] → FitsStayClean sc book state
 fits-stand-first sc book state e f =
-    let first : FitsStand sc book (record state { steps = [] }) = record {
+    let first : FitsStayClean sc book (record state { steps = [] }) = record {
       clock = sym e;
       grows = λ r s set active is. cc;
       fits = λ r s active is. cc;
@@ -262,7 +262,7 @@ fits-stand-first sc book state e f =
     fits-stand-same sc book (record state { steps = [] }) state refl refl (sym f) first
 
 -- what a fitting test puts into the map makes the map clean on the set that the test asks about
-pub delta-fits : (sc : Scenario) (book : BookView) (state : CoreState) (t : ClockTest) (shown : Shown) → FitsStand sc book state → is_active state.clock t.station ≡ true → IsStepShown sc book state (step_of t shown) → shows_room shown ≡ true →
+pub delta-fits : (sc : Scenario) (book : BookView) (state : CoreState) (t : ClockTest) (shown : Shown) → FitsStayClean sc book state → is_active state.clock t.station ≡ true → IsStepShown sc book state (step_of t shown) → shows_room shown ≡ true →
     IsCleanOn book (test_task sc book state t).set (overlaid (test_task sc book state t).last (delta_of state.steps t.station shown))
 delta-fits sc book state t shown f active h room =
     let go : (o : Option Shown) → settled_unasked sc book state t ≡ o → MatchOption o (IsSettledBy sc book (test_task sc book state t) shown) (λ unasked. shown ≡ unasked) → IsCleanOn book (test_task sc book state t).set (overlaid (test_task sc book state t).last (delta_of state.steps t.station shown)) = λ o. elim o as (λ o. settled_unasked sc book state t ≡ o → MatchOption o (IsSettledBy sc book (test_task sc book state t) shown) (λ unasked. shown ≡ unasked) → IsCleanOn book (test_task sc book state t).set (overlaid (test_task sc book state t).last (delta_of state.steps t.station shown))) [
@@ -289,7 +289,7 @@ delta-fits sc book state t shown f active h room =
 abbrev pub AreOffAir : Scenario → ClockState → Type 0
 AreOffAir sc clock = (s : ℕ) → is_active clock s ≡ true → Contains (facilities sc) s × (is_on_air clock s ≡ false)
 
-module _ (sc : Scenario) (book : BookView) (state : CoreState) (t : ClockTest) (shown : Shown) (a : IsAuction sc book) (off : AreOffAir sc state.clock) (active : is_active state.clock t.station ≡ true) (f : FitsStand sc book state) (h : IsStepShown sc book state (step_of t shown)) where
+module _ (sc : Scenario) (book : BookView) (state : CoreState) (t : ClockTest) (shown : Shown) (a : IsAuction sc book) (off : AreOffAir sc state.clock) (active : is_active state.clock t.station ≡ true) (f : FitsStayClean sc book state) (h : IsStepShown sc book state (step_of t shown)) where
   abbrev after : CoreState
   after = settled sc state t shown
 
@@ -359,7 +359,7 @@ module _ (sc : Scenario) (book : BookView) (state : CoreState) (t : ClockTest) (
       (subst (λ set. IsCleanOn book set (overlaid (restricted state.map set) (last_fit state.steps s []))) same kept))
 
   -- earlier fits still work after the step, and so does its own
-  pub fits-stand-step : FitsStand sc book after
+  pub fits-stand-step : FitsStayClean sc book after
   fits-stand-step = record {
     clock = clock-more;
     grows = grows-more;

@@ -4,10 +4,10 @@ use Rattle.std.proofs.lemmas.List.{get_or-map, length-map}
 use Rattle.pack_defs.specs.declared.station.Station.{Station}
 use Rattle.pack_defs.specs.Scenario.{facilities}
 use Rattle.pack_defs.specs.Prices.{last_round}
-use Rattle.pack_defs.specs.ClockRule.{turns}
+use Rattle.pack_defs.specs.ClockRule.{round_order}
 use Rattle.pack_defs.proofs.Falls.{rounds-within}
 use Rattle.pack_defs.proofs.PriceLaws.{prices_rounds}
-use Rattle.pack_defs.proofs.Turns.{turns-length}
+use Rattle.pack_defs.proofs.RoundOrderLemmas.{turns-length}
 use Rattle.auction_core.specs.Setup.{IsSetup, SetupView}
 
 -- there are as many prices as rounds; round 0 stands in for the last round, which has no price
@@ -25,17 +25,17 @@ pub as-many : (s : SetupView) (schedule places : List ℕ) → IsSetup s schedul
 as-many s schedule places h =
     let own = length-map places (λ i. get_or (facilities s.scenario) i 0) in
     let all = length-map s.scenario.stations (λ (x : Station). x.id) in
-    let turns_all = ap length h.turns_are ∙ turns-length s.scenario s.order in
+    let turns_all = ap length h.round_order_is ∙ turns-length s.scenario s.order in
     omega (arith, own, all, turns_all)
 
 -- the station at the place of a turn
-pub station-at : (s : SetupView) (schedule places : List ℕ) (turn place d : ℕ) → IsSetup s schedule places → turn < length s.scenario.stations → get_or places turn d ≡ place →
-    (place < length s.scenario.stations) × (get_or (facilities s.scenario) place 0 ≡ get_or (turns s.scenario s.order) turn 0)
-station-at s schedule places turn place d h inside at =
+pub station-at : (s : SetupView) (schedule places : List ℕ) (place_in_round place d : ℕ) → IsSetup s schedule places → place_in_round < length s.scenario.stations → get_or places place_in_round d ≡ place →
+    (place < length s.scenario.stations) × (get_or (facilities s.scenario) place 0 ≡ get_or (round_order s.scenario s.order) place_in_round 0)
+station-at s schedule places place_in_round place d h inside at =
     let many = as-many s schedule places h in
-    let here : turn < length places = omega (arith, many, inside) in (
-      subst (λ i. i < length s.scenario.stations) at (h.within turn d here),
+    let here : place_in_round < length places = omega (arith, many, inside) in (
+      subst (λ i. i < length s.scenario.stations) at (h.within place_in_round d here),
       ap (λ i. get_or (facilities s.scenario) i 0) (sym at)
-          ∙ (sym (get_or-map (λ i. get_or (facilities s.scenario) i 0) places turn d 0 here)
-          ∙ ap (λ xs. get_or xs turn 0) h.turns_are),
+          ∙ (sym (get_or-map (λ i. get_or (facilities s.scenario) i 0) places place_in_round d 0 here)
+          ∙ ap (λ xs. get_or xs place_in_round 0) h.round_order_is),
     )

@@ -17,12 +17,12 @@ use Rattle.pack_defs.proofs.ClockSteps.{test_idle, run_inactive}
 use Rattle.pack_defs.proofs.Rivals.{OneEachRound}
 use Rattle.pack_defs.proofs.ThresholdLaw.{opening_rounds}
 use Rattle.auction_core.specs.declared.record.Step.{Step}
-use Rattle.auction_core.specs.Parts.{AreParts, PartsView, IsPartsOf, IsWithOne, label_of, labelled, last_seen, number_from, number_on_air, relabelled, touches, touches_since}
+use Rattle.auction_core.specs.ComponentLabels.{AreComponents, ComponentLabelsView, AreLabelsOf, IsWithOneMore, label_of, labelled, last_seen, number_from, number_on_air, relabelled, touches, touches_since}
 use Rattle.auction_core.specs.Rule.{IsAuction}
 use Rattle.auction_core.specs.declared.record.Shown.{Shown}
 use Rattle.auction_core.specs.Backed.{after_start, after_steps, undecided_of}
 use Rattle.auction_core.specs.State.{CoreState, settled, test_of, shows_room, tested_set, set_in, is_same}
-use Rattle.auction_core.specs.Walked.{clock_after}
+use Rattle.auction_core.specs.ClockProgress.{clock_after}
 use Rattle.auction_core.proofs.Before.{same-iff, was-active}
 use Rattle.auction_core.proofs.Sets.{AreOffAir, IsLater, asked-own}
 use Rattle.auction_core.proofs.Tied.{all-before, relabelled-parts}
@@ -179,14 +179,14 @@ asked-rounds sc book U (u ∷ ts) after st t s k each active is =
 -- ---- by the labels
 
 -- the stations with a label are those on air, and a test of another station asks about some of these and that one
-pub asks-with-one : (sc : Scenario) (book : BookView) (clock : ClockState) (parts : PartsView) (s : ℕ) → Contains (facilities sc) s → is_on_air clock s ≡ false → IsPartsOf sc book clock parts → IsWithOne (labelled parts) (asked_set sc clock s) s
-asks-with-one sc book clock parts s known off h =
-    let listed : (z : ℕ) → Contains (labelled parts) z → Contains (facilities sc) z × (is_on_air clock z ≡ true) = λ z c.
-    let w = Contains-from_filter (λ v. not (label_of parts v == 0)) parts.stations z c in
+pub asks-with-one : (sc : Scenario) (book : BookView) (clock : ClockState) (component_labels : ComponentLabelsView) (s : ℕ) → Contains (facilities sc) s → is_on_air clock s ≡ false → AreLabelsOf sc book clock component_labels → IsWithOneMore (labelled component_labels) (asked_set sc clock s) s
+asks-with-one sc book clock component_labels s known off h =
+    let listed : (z : ℕ) → Contains (labelled component_labels) z → Contains (facilities sc) z × (is_on_air clock z ≡ true) = λ z c.
+    let w = Contains-from_filter (λ v. not (label_of component_labels v == 0)) component_labels.stations z c in
     let there : Contains (facilities sc) z = subst (λ xs. Contains xs z) h.stations w.0 in
     (there, sym (h.on_air z there) ∙ w.1) in
-    let lists : (z : ℕ) → Contains (facilities sc) z → is_on_air clock z ≡ true → Contains (labelled parts) z = λ z there on.
-    Contains-filter (λ v. not (label_of parts v == 0)) parts.stations z (subst (λ xs. Contains xs z) (sym h.stations) there) (h.on_air z there ∙ on) in
+    let lists : (z : ℕ) → Contains (facilities sc) z → is_on_air clock z ≡ true → Contains (labelled component_labels) z = λ z there on.
+    Contains-filter (λ v. not (label_of component_labels v == 0)) component_labels.stations z (subst (λ xs. Contains xs z) (sym h.stations) there) (h.on_air z there ∙ on) in
     record {
       each = λ z c. let w = listed z c in Contains-filter (λ f. is_on_air clock f || (f == s)) (facilities sc) z w.0 (or_left (is_on_air clock z) (z == s) w.1);
       one = asked-own sc clock s known;
@@ -197,30 +197,30 @@ asks-with-one sc book clock parts s known off h =
     }
 
 -- a test of a station off air asks about the same stations as before if and only if it touches no component that changed since
-pub same-by-parts : (sc : Scenario) (book : BookView) (was now_ : ClockState) (more : List OnAirSince) (parts : PartsView) (s : ℕ) → IsAuction sc book → Contains (facilities sc) s → is_on_air now_ s ≡ false → now_.on_air ≡ was.on_air ++ more → IsPartsOf sc book now_ parts →
-    same_list (tested_set sc book now_ s) (tested_set sc book was s) ≡ not (touches_since book parts s (length was.on_air + 1))
-same-by-parts sc book was now_ more parts s a known off is h =
+pub same-by-parts : (sc : Scenario) (book : BookView) (was now_ : ClockState) (more : List OnAirSince) (component_labels : ComponentLabelsView) (s : ℕ) → IsAuction sc book → Contains (facilities sc) s → is_on_air now_ s ≡ false → now_.on_air ≡ was.on_air ++ more → AreLabelsOf sc book now_ component_labels →
+    same_list (tested_set sc book now_ s) (tested_set sc book was s) ≡ not (touches_since book component_labels s (length was.on_air + 1))
+same-by-parts sc book was now_ more component_labels s a known off is h =
     let time : ℕ = length was.on_air + 1 in
     let later : IsLater was now_ = λ f on. subst (λ xs. list_any (λ (x : OnAirSince). x.station == f) xs ≡ true) (sym is) (any-first was.on_air more f on) in
-    let one : IsWithOne (labelled parts) (asked_set sc now_ s) s = asks-with-one sc book now_ parts s known off h in
+    let one : IsWithOneMore (labelled component_labels) (asked_set sc now_ s) s = asks-with-one sc book now_ component_labels s known off h in
     let iff = same-iff sc book was now_ s a known later in
-    let before = all-before book (labelled parts) (number_on_air now_) (label_of parts) h.are (asked_set sc now_ s) s one time in
+    let before = all-before book (labelled component_labels) (number_on_air now_) (label_of component_labels) h.are (asked_set sc now_ s) s one time in
     let on_air : (z : ℕ) → is_in (tested_set sc book now_ s) z ≡ true → (z ≡ s → ⊥) → is_on_air now_ z ≡ true = λ z there other.
     ⊎_elim (λ on. on) (λ e. absurd (other (eqb-true z s e))) (or_cases (is_on_air now_ z) (z == s) (Contains-from_filter (λ f. is_on_air now_ f || (f == s)) (facilities sc) z (component-within book (asked_set sc now_ s) s z (is_in-gives (tested_set sc book now_ s) z there))).1) in
     same-truth _ _
-    (λ same. ap not (false_from_ne_true (touches_since book parts s time) (λ yes.
-    let (v, c, w) = list_any-gives (λ v. interferes book s v && nat_le time (label_of parts v)) (labelled parts) yes in
-    let both = and_parts (interferes book s v) (nat_le time (label_of parts v)) w in
+    (λ same. ap not (false_from_ne_true (touches_since book component_labels s time) (λ yes.
+    let (v, c, w) = list_any-gives (λ v. interferes book s v && nat_le time (label_of component_labels v)) (labelled component_labels) yes in
+    let both = and_parts (interferes book s v) (nat_le time (label_of component_labels v)) w in
     let low = before.0 (λ z there other. (number-then was now_ more z is (on_air z there other)).0 (iff.0 same z there other)) v c both.0 in
-    let high = leb-true time (label_of parts v) both.1 in
+    let high = leb-true time (label_of component_labels v) both.1 in
     omega (arith, low, high))))
     (λ out. iff.1 (λ z there other.
     (number-then was now_ more z is (on_air z there other)).1
     (before.1 (λ v c joined.
     ⊎_elim
-    (λ yes. absurd (both_ways (touches_since book parts s time) (not-is (touches_since book parts s time) out) (list_any-from (λ v. interferes book s v && nat_le time (label_of parts v)) (labelled parts) v c (and_from (interferes book s v) (nat_le time (label_of parts v)) joined yes))))
-    (λ no_. leb-false time (label_of parts v) no_)
-    (cases_Bool (nat_le time (label_of parts v))))
+    (λ yes. absurd (both_ways (touches_since book component_labels s time) (not-is (touches_since book component_labels s time) out) (list_any-from (λ v. interferes book s v && nat_le time (label_of component_labels v)) (labelled component_labels) v c (and_from (interferes book s v) (nat_le time (label_of component_labels v)) joined yes))))
+    (λ no_. leb-false time (label_of component_labels v) no_)
+    (cases_Bool (nat_le time (label_of component_labels v))))
     z there other)))
   where
     any-first : (xs ys : List OnAirSince) (f : ℕ) → list_any (λ (x : OnAirSince). x.station == f) xs ≡ true → list_any (λ (x : OnAirSince). x.station == f) (xs ++ ys) ≡ true
@@ -233,9 +233,9 @@ same-by-parts sc book was now_ more parts s a known off is h =
 
 -- From round 2 on: the test of an active station asks about the same stations as the one before if and only if it touches no
 -- component that changed since.
-pub same-since : (sc : Scenario) (book : BookView) (U before after : List ClockTest) (state : CoreState) (parts : PartsView) (t : ClockTest) → IsAuction sc book → clock_tests sc state.order ≡ before ++ t ∷ after → map test_of state.steps ≡ asked_from sc book U before (opening_state sc) → state.clock ≡ after_tests sc book U before (opening_state sc) → clock_after sc (opening_state sc) state.steps ≡ state.clock → AreOffAir sc state.clock → is_active state.clock t.station ≡ true → IsPartsOf sc book state.clock parts → 2 ≤ t.round →
-    is_same sc book state t ≡ not (touches_since book parts t.station (last_seen sc (opening_state sc) state.steps t.station 0 + 1))
-same-since sc book U before after state parts t a split tests clock steps off active h late =
+pub same-since : (sc : Scenario) (book : BookView) (U before after : List ClockTest) (state : CoreState) (component_labels : ComponentLabelsView) (t : ClockTest) → IsAuction sc book → clock_tests sc state.order ≡ before ++ t ∷ after → map test_of state.steps ≡ asked_from sc book U before (opening_state sc) → state.clock ≡ after_tests sc book U before (opening_state sc) → clock_after sc (opening_state sc) state.steps ≡ state.clock → AreOffAir sc state.clock → is_active state.clock t.station ≡ true → AreLabelsOf sc book state.clock component_labels → 2 ≤ t.round →
+    is_same sc book state t ≡ not (touches_since book component_labels t.station (last_seen sc (opening_state sc) state.steps t.station 0 + 1))
+same-since sc book U before after state component_labels t a split tests clock steps off active h late =
     let s : ℕ = t.station in
     let there = off s active in
     let active' : is_active (after_tests sc book U before (opening_state sc)) s ≡ true = subst (λ c. is_active c s ≡ true) clock active in
@@ -244,8 +244,8 @@ same-since sc book U before after state parts t a split tests clock steps off ac
     let each : OneEachRound s 0 (map test_of state.steps ++ t ∷ []) = subst (λ ts. OneEachRound s 0 (ts ++ t ∷ [])) (sym tests) asked in
     let l = last-test sc book (opening_state sc) state.steps t s 0 0 each refl late in
     ap (λ o. option_map_or (same_list (tested_set sc book state.clock s)) o false) l.set
-    ∙ (same-by-parts sc book l.was state.clock l.more parts s a there.0 there.1 (ap (λ (c : ClockState). c.on_air) (sym steps) ∙ l.now_is) h
-    ∙ ap (λ n. not (touches_since book parts s (n + 1))) (sym l.seen))
+    ∙ (same-by-parts sc book l.was state.clock l.more component_labels s a there.0 there.1 (ap (λ (c : ClockState). c.on_air) (sym steps) ∙ l.now_is) h
+    ∙ ap (λ n. not (touches_since book component_labels s (n + 1))) (sym l.seen))
 
 -- ---- the labels follow the clock
 
@@ -254,10 +254,10 @@ after-clock sc st [] = refl
 after-clock sc st (x ∷ xs) = after-clock sc (settled sc st (test_of x) x.shown) xs
 
 -- the same, for the clock after the steps
-pub same-so-far : (sc : Scenario) (book : BookView) (state : CoreState) (before after : List ClockTest) (t : ClockTest) (start : Shown) (parts : PartsView) → IsAuction sc book → clock_tests sc state.order ≡ before ++ t ∷ after → state.clock ≡ after_tests sc book (undecided_of state.steps) before (opening_state sc) → map test_of state.steps ≡ asked_from sc book (undecided_of state.steps) before (opening_state sc) → (after_steps sc (after_start sc state.order start) state.steps).clock ≡ state.clock → is_active state.clock t.station ≡ true → IsPartsOf sc book state.clock parts → 2 ≤ t.round →
-    is_same sc book state t ≡ not (touches_since book parts t.station (last_seen sc (opening_state sc) state.steps t.station 0 + 1))
-same-so-far sc book state before after t start parts a split clock tests steps active h late =
-    same-since sc book (undecided_of state.steps) before after state parts t a split tests clock
+pub same-so-far : (sc : Scenario) (book : BookView) (state : CoreState) (before after : List ClockTest) (t : ClockTest) (start : Shown) (component_labels : ComponentLabelsView) → IsAuction sc book → clock_tests sc state.order ≡ before ++ t ∷ after → state.clock ≡ after_tests sc book (undecided_of state.steps) before (opening_state sc) → map test_of state.steps ≡ asked_from sc book (undecided_of state.steps) before (opening_state sc) → (after_steps sc (after_start sc state.order start) state.steps).clock ≡ state.clock → is_active state.clock t.station ≡ true → AreLabelsOf sc book state.clock component_labels → 2 ≤ t.round →
+    is_same sc book state t ≡ not (touches_since book component_labels t.station (last_seen sc (opening_state sc) state.steps t.station 0 + 1))
+same-so-far sc book state before after t start component_labels a split clock tests steps active h late =
+    same-since sc book (undecided_of state.steps) before after state component_labels t a split tests clock
     (sym (after-clock sc (after_start sc state.order start) state.steps) ∙ steps)
     (off-air sc book (undecided_of state.steps) before state.clock a clock) active h late
 
@@ -280,7 +280,7 @@ number-new k (x ∷ xs) y z out is =
 some-label : (n : ℕ) → not (n + 1 == 0) ≡ true
 some-label n = ap not (ne_eqb (n + 1) 0 (λ e. omega (arith, e)))
 
-module _ (sc : Scenario) (book : BookView) (clock : ClockState) (t : ClockTest) (parts new : PartsView) (known : Contains (facilities sc) t.station) (off : is_on_air clock t.station ≡ false) (h : IsPartsOf sc book clock parts) (same : new.stations ≡ parts.stations) (labels : (z : ℕ) → label_of new z ≡ relabelled book (labelled parts) (label_of parts) t.station (length clock.on_air + 1) z) where
+module _ (sc : Scenario) (book : BookView) (clock : ClockState) (t : ClockTest) (component_labels new : ComponentLabelsView) (known : Contains (facilities sc) t.station) (off : is_on_air clock t.station ≡ false) (h : AreLabelsOf sc book clock component_labels) (same : new.stations ≡ component_labels.stations) (labels : (z : ℕ) → label_of new z ≡ relabelled book (labelled component_labels) (label_of component_labels) t.station (length clock.on_air + 1) z) where
   abbrev u : ℕ
   u = t.station
 
@@ -294,22 +294,22 @@ module _ (sc : Scenario) (book : BookView) (clock : ClockState) (t : ClockTest) 
   on-next z = list_any-append (λ (x : OnAirSince). x.station == z) clock.on_air (record { station = u; round = t.round } ∷ [])
 
   -- the label of a station on air is not 0
-  touched-label : (l : ℕ) → touches book (labelled parts) (label_of parts) u l ≡ true → not (l == 0) ≡ true
+  touched-label : (l : ℕ) → touches book (labelled component_labels) (label_of component_labels) u l ≡ true → not (l == 0) ≡ true
   touched-label l touched =
-      let (v, c, w) = list_any-gives (λ v. interferes book u v && (label_of parts v == l)) (labelled parts) touched in
-      let is = eqb-true (label_of parts v) l (and_parts (interferes book u v) (label_of parts v == l) w).1 in
-      subst (λ m. not (m == 0) ≡ true) is (Contains-from_filter (λ v. not (label_of parts v == 0)) parts.stations v c).1
+      let (v, c, w) = list_any-gives (λ v. interferes book u v && (label_of component_labels v == l)) (labelled component_labels) touched in
+      let is = eqb-true (label_of component_labels v) l (and_parts (interferes book u v) (label_of component_labels v == l) w).1 in
+      subst (λ m. not (m == 0) ≡ true) is (Contains-from_filter (λ v. not (label_of component_labels v == 0)) component_labels.stations v c).1
 
   on-air-next : (z : ℕ) → Contains (facilities sc) z → not (label_of new z == 0) ≡ is_on_air next z
   on-air-next z there =
       ap (λ l. not (l == 0)) (labels z) ∙
-      (elim (z == u) as (λ b. (z == u) ≡ b → not ((if b || touches book (labelled parts) (label_of parts) u (label_of parts z) then n else label_of parts z) == 0) ≡ is_on_air next z) [
+      (elim (z == u) as (λ b. (z == u) ≡ b → not ((if b || touches book (labelled component_labels) (label_of component_labels) u (label_of component_labels z) then n else label_of component_labels z) == 0) ≡ is_on_air next z) [
         | true ↦ λ e. some-label (length clock.on_air) ∙ sym (on-next z ∙ or_right (is_on_air clock z) _ (or_left (u == z) false (eq-eqb u z (sym (eqb-true z u e)))))
         | false ↦ λ e.
             let other : (u == z) ≡ false = ne_eqb u z (λ k. both_ways (z == u) e (eq-eqb z u (sym k))) in
             let is : is_on_air next z ≡ is_on_air clock z = on-next z ∙ (ap (λ b. is_on_air clock z || (b || false)) other ∙ or_no (is_on_air clock z)) in
-            (elim (touches book (labelled parts) (label_of parts) u (label_of parts z)) as (λ b. touches book (labelled parts) (label_of parts) u (label_of parts z) ≡ b → not ((if b then n else label_of parts z) == 0) ≡ is_on_air next z) [
-              | true ↦ λ yes. some-label (length clock.on_air) ∙ sym (is ∙ (sym (h.on_air z there) ∙ touched-label (label_of parts z) yes))
+            (elim (touches book (labelled component_labels) (label_of component_labels) u (label_of component_labels z)) as (λ b. touches book (labelled component_labels) (label_of component_labels) u (label_of component_labels z) ≡ b → not ((if b then n else label_of component_labels z) == 0) ≡ is_on_air next z) [
+              | true ↦ λ yes. some-label (length clock.on_air) ∙ sym (is ∙ (sym (h.on_air z there) ∙ touched-label (label_of component_labels z) yes))
               | false ↦ λ _. h.on_air z there ∙ sym is
             ]) refl
       ]) refl
@@ -318,10 +318,10 @@ module _ (sc : Scenario) (book : BookView) (clock : ClockState) (t : ClockTest) 
       or_no true = refl
       or_no false = refl
 
-  with-one : IsWithOne (labelled parts) (labelled new) u
+  with-one : IsWithOneMore (labelled component_labels) (labelled new) u
   with-one = record {
     each = λ z c.
-        let w = Contains-from_filter (λ v. not (label_of parts v == 0)) parts.stations z c in
+        let w = Contains-from_filter (λ v. not (label_of component_labels v == 0)) component_labels.stations z c in
         let there : Contains (facilities sc) z = subst (λ xs. Contains xs z) h.stations w.0 in
         let on : is_on_air clock z ≡ true = sym (h.on_air z there) ∙ w.1 in
         Contains-filter (λ v. not (label_of new v == 0)) new.stations z (subst (λ xs. Contains xs z) (sym same) w.0) (on-air-next z there ∙ (on-next z ∙ or_left (is_on_air clock z) _ on));
@@ -330,11 +330,11 @@ module _ (sc : Scenario) (book : BookView) (clock : ClockState) (t : ClockTest) 
         let w = Contains-from_filter (λ v. not (label_of new v == 0)) new.stations z c in
         let there : Contains (facilities sc) z = subst (λ xs. Contains xs z) (same ∙ h.stations) w.0 in
         ⊎_elim
-        (λ on. inl (Contains-filter (λ v. not (label_of parts v == 0)) parts.stations z (subst (λ xs. Contains xs z) (sym h.stations) there) (h.on_air z there ∙ on)))
+        (λ on. inl (Contains-filter (λ v. not (label_of component_labels v == 0)) component_labels.stations z (subst (λ xs. Contains xs z) (sym h.stations) there) (h.on_air z there ∙ on)))
         (λ k. inr (sym (eqb-true u z (or-false (u == z) k))))
         (or_cases (is_on_air clock z) ((u == z) || false) (sym (on-next z) ∙ (sym (on-air-next z there) ∙ w.1)));
     new = λ c.
-        let w = Contains-from_filter (λ v. not (label_of parts v == 0)) parts.stations u c in
+        let w = Contains-from_filter (λ v. not (label_of component_labels v == 0)) component_labels.stations u c in
         both_ways (is_on_air clock u) off (sym (h.on_air u known) ∙ w.1);
   }
     where
@@ -343,25 +343,25 @@ module _ (sc : Scenario) (book : BookView) (clock : ClockState) (t : ClockTest) 
       or-false false e = cc
 
   -- the labels once a station goes on air are those of the clock's new state
-  pub joined-parts : IsPartsOf sc book next new
+  pub joined-parts : AreLabelsOf sc book next new
   joined-parts =
-      let on : (z : ℕ) → Contains (labelled parts) z → is_on_air clock z ≡ true = λ z c.
-      let w = Contains-from_filter (λ v. not (label_of parts v == 0)) parts.stations z c in
+      let on : (z : ℕ) → Contains (labelled component_labels) z → is_on_air clock z ≡ true = λ z c.
+      let w = Contains-from_filter (λ v. not (label_of component_labels v == 0)) component_labels.stations z c in
       sym (h.on_air z (subst (λ xs. Contains xs z) h.stations w.0)) ∙ w.1 in
-      let are = relabelled-parts book (labelled parts) (number_on_air clock) (label_of parts) h.are (labelled new) u with-one n (number_on_air next)
+      let are = relabelled-parts book (labelled component_labels) (number_on_air clock) (label_of component_labels) h.are (labelled new) u with-one n (number_on_air next)
       (λ z c. number-kept 1 clock.on_air (record { station = u; round = t.round } ∷ []) z (on z c))
       (number-new 1 clock.on_air (record { station = u; round = t.round }) u off refl ∙ omega arith)
       (λ z c. let low = h.most z in omega (arith, low)) in
-      let path : relabelled book (labelled parts) (label_of parts) u n ≡ label_of new = λ i z. sym (labels z) i in
+      let path : relabelled book (labelled component_labels) (label_of component_labels) u n ≡ label_of new = λ i z. sym (labels z) i in
       record {
         stations = same ∙ h.stations;
         on_air = on-air-next;
-        are = subst (λ (f : ℕ → ℕ). AreParts book (labelled new) (number_on_air next) f) path are;
+        are = subst (λ (f : ℕ → ℕ). AreComponents book (labelled new) (number_on_air next) f) path are;
         most = λ z.
             let long = length-append clock.on_air (record { station = u; round = t.round } ∷ []) in
             let low = h.most z in
-            let bound : relabelled book (labelled parts) (label_of parts) u n z ≤ length next.on_air =
-            (elim ((z == u) || touches book (labelled parts) (label_of parts) u (label_of parts z)) as (λ b. (if b then n else label_of parts z) ≤ length next.on_air) [
+            let bound : relabelled book (labelled component_labels) (label_of component_labels) u n z ≤ length next.on_air =
+            (elim ((z == u) || touches book (labelled component_labels) (label_of component_labels) u (label_of component_labels z)) as (λ b. (if b then n else label_of component_labels z) ≤ length next.on_air) [
               | true ↦ omega (arith, long)
               | false ↦ omega (arith, long, low)
             ]) in

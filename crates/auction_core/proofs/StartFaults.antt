@@ -1,4 +1,4 @@
--- A start without a fault is properly settled, and the converse. For `follow`.
+-- A start without a fault is properly settled, and the converse. For `check_sequence`.
 use Rattle.std.proofs.Common.{◌≡◌, ℕ, Bool, true, false, if◌then◌else◌, List, [], ◌∷◌, find, Option, Some, None, option_map, is_none, MatchOption, refl, sym, subst}
 use Rattle.pack_defs.specs.declared.scenario.Scenario.{Scenario}
 use Rattle.pack_defs.specs.Book.{BookView, domain_of}
@@ -15,7 +15,7 @@ use Rattle.auction_core.specs.declared.record.Ending.TheVariants.{Done}
 use Rattle.auction_core.specs.State.{CoreState, before_start, settled, shows_room, start_task, start_unasked, test_of}
 use Rattle.auction_core.specs.Backed.{IsSettledBy, IsStartShown, after_start, after_steps, ending_of}
 use Rattle.auction_core.specs.Rule.{IsAuction}
-use Rattle.auction_core.specs.Walked.{IsWalked}
+use Rattle.auction_core.specs.ClockProgress.{IsClockProgress}
 use Rattle.auction_core.proofs.Keeps.{first-walk}
 use Rattle.auction_core.specs.NotShown.{start_fault}
 use Rattle.auction_core.proofs.StepLemmas.{absurd-place, clean-fit}
@@ -68,7 +68,7 @@ start-none sc book (Refuted w how) h d = absurd cc
 start-none sc book (Outside proof) h d = absurd cc
 start-none sc book (Undecided xs) h d = absurd cc
 
-pub start-walk : (sc : Scenario) (book : BookView) (order : Order) (start : Shown) → IsAuction sc book → IsStartShown sc book start → shows_room start ≡ true → IsWalked sc book start (after_start sc order start) []
+pub start-walk : (sc : Scenario) (book : BookView) (order : Order) (start : Shown) → IsAuction sc book → IsStartShown sc book start → shows_room start ≡ true → IsClockProgress sc book start (after_start sc order start) []
 start-walk sc book order start a h r = first-walk sc book start (before_start sc order) a (record { clock = refl; left = refl; map = refl; steps = refl }) h r
 
 pub after_steps-order : (sc : Scenario) (state : CoreState) (xs : List Step) → (after_steps sc state xs).order ≡ state.order

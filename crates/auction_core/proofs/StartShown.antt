@@ -57,7 +57,7 @@ bare-unfit book set s there bare =
 -- a start settled without a query is empty or has a station without a channel
 data IsUnasked (sc : Scenario) (book : BookView) (shown : Shown) : Type 0 where
   Nobody : shown ≡ Empty → IsUnasked sc book shown
-  Bare : (s : ℕ) → shown ≡ NoChannel s → Contains (start_set sc) s → domain_of book s ≡ [] → IsUnasked sc book shown
+  Channelless : (s : ℕ) → shown ≡ NoChannel s → Contains (start_set sc) s → domain_of book s ≡ [] → IsUnasked sc book shown
 
 unasked : (sc : Scenario) (book : BookView) (shown : Shown) → start_unasked sc book ≡ Some shown → IsUnasked sc book shown
 unasked sc book shown e =
@@ -66,7 +66,7 @@ unasked sc book shown e =
       | Some s ↦ λ g f.
           let found = first-found (λ s. is_empty (domain_of book s)) (start_set sc) s g in
           let same : NoChannel s ≡ shown = cc in
-          Bare s (sym same) found.0 (no-element (domain_of book s) found.1)
+          Channelless s (sym same) found.0 (no-element (domain_of book s) found.1)
     ] in
     let outer : (b : Bool) → cond b (Some Empty) (option_map NoChannel (find (λ s. is_empty (domain_of book s)) (start_set sc))) ≡ Some shown → IsUnasked sc book shown = λ b. elim b as (λ b. cond b (Some Empty) (option_map NoChannel (find (λ s. is_empty (domain_of book s)) (start_set sc))) ≡ Some shown → IsUnasked sc book shown) [
       | true ↦ λ f. let same : Empty ≡ shown = cc in Nobody (sym same)
@@ -85,7 +85,7 @@ settled_unfit sc book (Undecided xs) a r k = cc
 
 unasked_unfit : (sc : Scenario) (book : BookView) (shown : Shown) → ending_of shown ≡ StartRefuted → IsUnasked sc book shown → fits book (start_set sc) ≡ false
 unasked_unfit sc book shown r (Nobody is) = let no : ending_of Empty ≡ StartRefuted = sym (ap ending_of is) ∙ r in cc
-unasked_unfit sc book shown r (Bare s is there bare) = bare-unfit book (start_set sc) s there bare
+unasked_unfit sc book shown r (Channelless s is there bare) = bare-unfit book (start_set sc) s there bare
 
 -- if the start was refuted, the start set does not fit
 pub refuted-unfits : (sc : Scenario) (book : BookView) (order : Order) (rec : Record) → IsAuction sc book → IsBacked sc book order rec → rec.ending ≡ StartRefuted → fits book (start_set sc) ≡ false
@@ -110,7 +110,7 @@ settled_open sc book (Undecided xs) r k = (xs, refl, k)
 
 unasked_open : (sc : Scenario) (book : BookView) (shown : Shown) → ending_of shown ≡ StartUndecided → IsUnasked sc book shown → ⊥
 unasked_open sc book shown r (Nobody is) = let no : ending_of Empty ≡ StartUndecided = sym (ap ending_of is) ∙ r in cc
-unasked_open sc book shown r (Bare s is there bare) = let no : ending_of (NoChannel s) ≡ StartUndecided = sym (ap ending_of is) ∙ r in cc
+unasked_open sc book shown r (Channelless s is there bare) = let no : ending_of (NoChannel s) ≡ StartUndecided = sym (ap ending_of is) ∙ r in cc
 
 -- an undecided start has a receipt of every worker
 pub open-receipts : (sc : Scenario) (book : BookView) (order : Order) (rec : Record) → IsBacked sc book order rec → rec.ending ≡ StartUndecided →

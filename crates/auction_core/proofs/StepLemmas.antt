@@ -30,7 +30,7 @@ use Rattle.auction_core.specs.Backed.{AreReceipts, IsSettledBy, IsStepShown}
 use Rattle.auction_core.proofs.Sets.{unasked-cases}
 use Rattle.auction_core.specs.declared.transcript.TranscriptStep.{TranscriptStep}
 use Rattle.auction_core.specs.LogNumbers.{clauses_in, first_number, first_of, firsts_of}
-use Rattle.auction_core.specs.NotShown.{or_first_line, receipt_fault, first_place_or, each_fault, refuted_fault, one_log_fault, query_fault, is_bare, is_like_before, is_unasked_so, unasked_fault, step_fault}
+use Rattle.auction_core.specs.NotShown.{or_first_line, receipt_fault, first_place_or, each_fault, refuted_fault, one_log_fault, query_fault, is_channelless, is_same_set, is_shown_unasked, unasked_fault, step_fault}
 use Rattle.auction_core.specs.LogNumbers.{IsNumbered}
 
 pub absurd-place : (place : Place) → Some place ≡ None → ⊥
@@ -158,7 +158,7 @@ query-none sc book task s (Undecided xs) a h =
 
 -- ---- a step
 
-bare-shown : (s : ℕ) (shown : Shown) → is_bare s shown ≡ true → shown ≡ NoChannel s
+bare-shown : (s : ℕ) (shown : Shown) → is_channelless s shown ≡ true → shown ≡ NoChannel s
 bare-shown s Empty e = absurd cc
 bare-shown s (Fits delta) e = absurd cc
 bare-shown s Same e = absurd cc
@@ -167,7 +167,7 @@ bare-shown s (Refuted w how) e = absurd cc
 bare-shown s (Outside proof) e = absurd cc
 bare-shown s (Undecided xs) e = absurd cc
 
-like-shown : (shown : Shown) → is_like_before shown ≡ true → shown ≡ Same
+like-shown : (shown : Shown) → is_same_set shown ≡ true → shown ≡ Same
 like-shown Empty e = absurd cc
 like-shown (Fits delta) e = absurd cc
 like-shown Same e = refl
@@ -177,7 +177,7 @@ like-shown (Outside proof) e = absurd cc
 like-shown (Undecided xs) e = absurd cc
 
 -- what the transcript says of a test settled without a query is what the rule says
-pub so-shown : (own shown : Shown) → is_unasked_so own shown ≡ true → shown ≡ own
+pub so-shown : (own shown : Shown) → is_shown_unasked own shown ≡ true → shown ≡ own
 so-shown Empty shown e = absurd cc
 so-shown (Fits delta) shown e = absurd cc
 so-shown Same shown e = like-shown shown e
@@ -187,10 +187,10 @@ so-shown (Outside proof) shown e = absurd cc
 so-shown (Undecided xs) shown e = absurd cc
 
 -- and the converse
-so-itself : (sc : Scenario) (book : BookView) (state : CoreState) (t : ClockTest) (own : Shown) → settled_unasked sc book state t ≡ Some own → is_unasked_so own own ≡ true
-so-itself sc book state t own e = elim (unasked-cases sc book state t own e) as (λ _. is_unasked_so own own ≡ true) [
-  | inl bare ↦ ap₂ is_unasked_so bare.1 bare.1 ∙ eq-eqb t.station t.station refl
-  | inr same ↦ ap₂ is_unasked_so same.1 same.1
+so-itself : (sc : Scenario) (book : BookView) (state : CoreState) (t : ClockTest) (own : Shown) → settled_unasked sc book state t ≡ Some own → is_shown_unasked own own ≡ true
+so-itself sc book state t own e = elim (unasked-cases sc book state t own e) as (λ _. is_shown_unasked own own ≡ true) [
+  | inl bare ↦ ap₂ is_shown_unasked bare.1 bare.1 ∙ eq-eqb t.station t.station refl
+  | inr same ↦ ap₂ is_shown_unasked same.1 same.1
 ]
 
 -- a test settled without a query has no log
@@ -202,8 +202,8 @@ no-logs sc book state t own clauses e = elim (unasked-cases sc book state t own 
 
 pub unasked-shown : (x : TranscriptStep) (own : Shown) → unasked_fault x own ≡ None → (x.step.shown ≡ own) × (x.firsts ≡ [])
 unasked-shown x own e =
-    let parts = unless-parts (is_unasked_so own x.step.shown && is_empty x.firsts) Kind None e in
-    let both = and_parts (is_unasked_so own x.step.shown) (is_empty x.firsts) parts.0 in
+    let parts = unless-parts (is_shown_unasked own x.step.shown && is_empty x.firsts) Kind None e in
+    let both = and_parts (is_shown_unasked own x.step.shown) (is_empty x.firsts) parts.0 in
     (so-shown own x.step.shown both.0, nil-is x.firsts both.1)
 
 -- the number of clauses of a step's test
@@ -235,6 +235,6 @@ step-none sc book state x h n = go (settled_unasked sc book state (test_of x.ste
         → option_map_or (unasked_fault x) o (query_fault sc book task x.step.shown x.firsts) ≡ None
     go (Some own) is so =
         let none : x.firsts ≡ [] = n ∙ (ap (firsts_of (clauses_at sc book state x)) so ∙ no-logs sc book state (test_of x.step) own (clauses_at sc book state x) is) in
-        unless-from (is_unasked_so own x.step.shown && is_empty x.firsts) Kind None
-        (and_from (is_unasked_so own x.step.shown) (is_empty x.firsts) (ap (is_unasked_so own) so ∙ so-itself sc book state (test_of x.step) own is) (ap is_empty none)) refl
+        unless-from (is_shown_unasked own x.step.shown && is_empty x.firsts) Kind None
+        (and_from (is_shown_unasked own x.step.shown) (is_empty x.firsts) (ap (is_shown_unasked own) so ∙ so-itself sc book state (test_of x.step) own is) (ap is_empty none)) refl
     go None is settled = ap (query_fault sc book task x.step.shown) n ∙ query-none sc book task x.step.station x.step.shown refl settled

@@ -9,17 +9,17 @@ use Rattle.pack_defs.specs.Lists.{is_in}
 use Rattle.pack_defs.specs.declared.scenario.Scenario.{Scenario}
 use Rattle.pack_defs.specs.Scenario.{facilities}
 use Rattle.pack_defs.specs.Prices.{bidders, declines}
-use Rattle.pack_defs.specs.Standing.{entries_of}
+use Rattle.pack_defs.specs.StationEntries.{station_entry_count}
 use Rattle.pack_defs.specs.ClockRule.{ClockState, ClockTest, OnAirSince, clock_tests, opening_state, is_active, is_on_air, is_listed, after_test, after_tests, asked_from}
 use Rattle.pack_defs.proofs.ClockSteps.{run_inactive}
-use Rattle.pack_defs.proofs.Standings.{each_once}
+use Rattle.pack_defs.proofs.StationEntryLemmas.{each_once}
 use Rattle.pack_defs.proofs.TestOrder.{no_test_twice}
 use Rattle.auction_core.specs.declared.record.Shown.{Shown}
 use Rattle.auction_core.specs.declared.record.Step.{Step}
 use Rattle.auction_core.specs.State.{CoreState, test_of, settled}
 use Rattle.auction_core.specs.Backed.{is_undecided, undecided_of, IsStepShown, after_steps, AreShown}
 use Rattle.auction_core.specs.Rule.{IsAuction}
-use Rattle.auction_core.specs.Walked.{IsWalked}
+use Rattle.auction_core.specs.ClockProgress.{IsClockProgress}
 use Rattle.auction_core.proofs.Answers.{filter-in}
 
 -- ---- lists of steps and of tests
@@ -84,7 +84,7 @@ listed-asked sc book U (u ∷ us) st t h =
 -- ---- the state after some tests
 
 -- the next test is not one of the undecided ones
-pub new-test : (sc : Scenario) (book : BookView) (start : Shown) (state : CoreState) (before after : List ClockTest) (t : ClockTest) → IsAuction sc book → IsWalked sc book start state before → clock_tests sc state.order ≡ before ++ t ∷ after → is_listed (undecided_of state.steps) t ≡ false
+pub new-test : (sc : Scenario) (book : BookView) (start : Shown) (state : CoreState) (before after : List ClockTest) (t : ClockTest) → IsAuction sc book → IsClockProgress sc book start state before → clock_tests sc state.order ≡ before ++ t ∷ after → is_listed (undecided_of state.steps) t ≡ false
 new-test sc book start state before after t a w parts =
     false_from_ne_true (is_listed (undecided_of state.steps) t) (λ yes.
     both_ways (is_listed before t) (no_test_twice sc state.order before after t a.stations parts)
@@ -116,7 +116,7 @@ one-more p (x ∷ xs) h =
 pub not-on-air : (sc : Scenario) (book : BookView) (U before : List ClockTest) (clock : ClockState) (s : ℕ) → IsAuction sc book → clock ≡ after_tests sc book U before (opening_state sc) → is_active clock s ≡ true → is_on_air clock s ≡ false
 not-on-air sc book U before clock s a e active =
     false_from_ne_true (is_on_air clock s) (λ yes.
-    let once : entries_of clock s ≡ 1 = subst (λ c. entries_of c s ≡ 1) (sym e) (each_once sc book U before s a.stations (bidder sc book U before clock s e active)) in
+    let once : station_entry_count clock s ≡ 1 = subst (λ c. station_entry_count c s ≡ 1) (sym e) (each_once sc book U before s a.stations (bidder sc book U before clock s e active)) in
     let on = one-more (λ (x : OnAirSince). x.station == s) clock.on_air yes in
     let still = one-more (λ (x : ℕ). x == s) clock.active active in
     absurd (omega arith))

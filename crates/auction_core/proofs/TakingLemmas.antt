@@ -12,9 +12,9 @@ use Rattle.auction_core.specs.declared.posting.Said.{Said}
 use Rattle.auction_core.specs.declared.record.Shown.{Shown}
 use Rattle.auction_core.specs.Backed.{IsSettledBy}
 use Rattle.auction_core.specs.Rule.{SettlesQuery}
-use Rattle.auction_core.specs.Said.{taken, told_of_judged}
-use Rattle.auction_core.specs.State.{CoreState, NotedSpent, answered, go_on, has_ended, past_first, settled, shows_room, start_delta, started, task_of}
-use Rattle.auction_core.specs.Take.{advanced, turned_away}
+use Rattle.auction_core.specs.Said.{taken, reply_to_judged}
+use Rattle.auction_core.specs.State.{CoreState, NotedSpent, answered, advance_to_query, has_ended, after_first_test, settled, shows_room, start_delta, started, task_of}
+use Rattle.auction_core.specs.Take.{advanced, unjudged_reply}
 use Rattle.auction_core.proofs.Keeps.{go-on-start}
 
 pub task-noted : (sc : Scenario) (book : BookView) (state : CoreState) (noted : List NotedSpent) → task_of sc book (record state { noted = noted }) ≡ task_of sc book state
@@ -31,13 +31,13 @@ started-none : (sc : Scenario) (book : BookView) (state : CoreState) (shown : Sh
 started-none sc book state shown e =
     let on : CoreState = record state { start = Some shown; map = overlaid state.map (start_delta shown) } in
     let off : CoreState = record state { start = Some shown } in
-    let go : (b : Bool) → (if b then go_on sc book (clock_tests sc state.order) on else off).noted ≡ [] = λ b. elim b as (λ b. (if b then go_on sc book (clock_tests sc state.order) on else off).noted ≡ []) [
+    let go : (b : Bool) → (if b then advance_to_query sc book (clock_tests sc state.order) on else off).noted ≡ [] = λ b. elim b as (λ b. (if b then advance_to_query sc book (clock_tests sc state.order) on else off).noted ≡ []) [
       | true ↦ (go-on-start sc book (clock_tests sc state.order) on).1 ∙ e
       | false ↦ e
     ] in
     go (shows_room shown)
 
-past-none : (sc : Scenario) (book : BookView) (state : CoreState) (shown : Shown) (ts : List ClockTest) → state.noted ≡ [] → (past_first sc book state shown ts).noted ≡ []
+past-none : (sc : Scenario) (book : BookView) (state : CoreState) (shown : Shown) (ts : List ClockTest) → state.noted ≡ [] → (after_first_test sc book state shown ts).noted ≡ []
 past-none sc book state shown [] e = e
 past-none sc book state shown (t ∷ ts) e = (go-on-start sc book ts (settled sc state t shown)).1 ∙ e
 
@@ -45,7 +45,7 @@ past-none sc book state shown (t ∷ ts) e = (go-on-start sc book ts (settled sc
 pub answered-none : (sc : Scenario) (book : BookView) (state : CoreState) (shown : Shown) → (answered sc book state shown).noted ≡ []
 answered-none sc book state shown =
     let next : CoreState = record state { noted = []; number = state.number + 1 } in
-    let go : (b : Bool) → (if b then started sc book next shown else past_first sc book next shown state.left).noted ≡ [] = λ b. elim b as (λ b. (if b then started sc book next shown else past_first sc book next shown state.left).noted ≡ []) [
+    let go : (b : Bool) → (if b then started sc book next shown else after_first_test sc book next shown state.left).noted ≡ [] = λ b. elim b as (λ b. (if b then started sc book next shown else after_first_test sc book next shown state.left).noted ≡ []) [
       | true ↦ started-none sc book next shown refl
       | false ↦ past-none sc book next shown state.left refl
     ] in
@@ -60,14 +60,14 @@ advanced-is sc book state after noted shown next a n e =
     ∙ ap (λ s. (Advanced (if has_ended s then None else Some s.number), s)) a)
 
 -- a posting that is turned away
-pub taken-turned : (sc : Scenario) (book : BookView) (state : CoreState) (posting : Posting) (reply : Reply) → turned_away sc state posting.worker posting.number ≡ Some reply → (reply, state) ≡ taken sc book state posting
+pub taken-turned : (sc : Scenario) (book : BookView) (state : CoreState) (posting : Posting) (reply : Reply) → unjudged_reply sc state posting.worker posting.number ≡ Some reply → (reply, state) ≡ taken sc book state posting
 unfolding taken
 taken-turned sc book state posting reply e =
-    sym (ap (λ o. option_map_or (λ reply. (reply, state)) o (told_of_judged sc book state posting.worker posting.said)) e)
+    sym (ap (λ o. option_map_or (λ reply. (reply, state)) o (reply_to_judged sc book state posting.worker posting.said)) e)
 
 -- a posting that is not turned away
-pub taken-told : (sc : Scenario) (book : BookView) (state : CoreState) (posting : Posting) (said : Said) → turned_away sc state posting.worker posting.number ≡ None → posting.said ≡ said → told_of_judged sc book state posting.worker said ≡ taken sc book state posting
+pub taken-told : (sc : Scenario) (book : BookView) (state : CoreState) (posting : Posting) (said : Said) → unjudged_reply sc state posting.worker posting.number ≡ None → posting.said ≡ said → reply_to_judged sc book state posting.worker said ≡ taken sc book state posting
 unfolding taken
 taken-told sc book state posting said e s =
-    ap (told_of_judged sc book state posting.worker) (sym s)
-    ∙ sym (ap (λ o. option_map_or (λ reply. (reply, state)) o (told_of_judged sc book state posting.worker posting.said)) e)
+    ap (reply_to_judged sc book state posting.worker) (sym s)
+    ∙ sym (ap (λ o. option_map_or (λ reply. (reply, state)) o (reply_to_judged sc book state posting.worker posting.said)) e)

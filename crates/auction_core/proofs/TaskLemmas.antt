@@ -1,4 +1,4 @@
--- The current query: what it asks, where the clock is then, and what settles it. For `clockwork`.
+-- The current query: what it asks, where the clock is then, and what settles it. For `query_session`.
 use Rattle.std.proofs.Common.{◌≡◌, ◌≢◌, ◌∙◌, ℕ, ◌+◌, ◌≤◌, Bool, true, false, not, cond, inl, inr, List, [], ◌∷◌, Option, Some, None, is_none, is_some, refl, sym, ap, subst, MatchOption}
 use Rattle.std.specs.Prelude.{⊤}
 use Rattle.std.proofs.lemmas.Bool.{both_ways, cases_Bool, cond-false, false≢true, true≢false}
@@ -13,15 +13,15 @@ use Rattle.cert_types.specs.Certificate.{IsTaskOf}
 use Rattle.cert_types.specs.declared.task.Task.{Task}
 use Rattle.auction_core.specs.declared.record.Shown.{Shown}
 use Rattle.auction_core.specs.Backed.{IsSettledBy, IsStartShown, undecided_of}
-use Rattle.auction_core.specs.Clockwork.{IsClockwork}
-use Rattle.auction_core.specs.Course.{CourseView, IsAtRest, IsCourse, IsDue, clock_of, core_state, left_of, next_test, tests_left, unasked_of}
-use Rattle.auction_core.specs.Parts.{label_of, touched_set}
+use Rattle.auction_core.specs.QuerySession.{IsQuerySession}
+use Rattle.auction_core.specs.ClockRun.{ClockRunView, IsAtRest, IsClockRun, IsDue, clock_of, core_state, left_of, next_test, tests_left, unasked_of}
+use Rattle.auction_core.specs.ComponentLabels.{label_of, touched_set}
 use Rattle.auction_core.specs.Rule.{IsQueryNext, KeepsTheRule, SettlesQuery}
 use Rattle.auction_core.specs.Setup.{IsOfAuction, SetupView}
 use Rattle.auction_core.specs.State.{CoreState, first_task, has_ended, start_fits, start_task, start_unasked, task_of, test_task, tested_set}
 use Rattle.auction_core.proofs.Answers.{component-ascending}
-use Rattle.auction_core.proofs.CourseLemmas.{sound-auction}
-use Rattle.auction_core.proofs.CourseTests.{IsNextShown, due-left, over-empty}
+use Rattle.auction_core.proofs.ClockRunLemmas.{sound-auction}
+use Rattle.auction_core.proofs.ClockRunTests.{IsNextShown, due-left, over-empty}
 use Rattle.auction_core.proofs.Keeps.{task-is}
 use Rattle.auction_core.proofs.Touched.{touched-tested}
 use Rattle.auction_core.proofs.Walk.{off-air, shown-number}
@@ -113,43 +113,43 @@ task-ascends sc book state a =
 -- ---- the query, in terms of the clock
 
 -- the clock runs, and the next test is due and needs a query
-pub record IsAtQuery (s : SetupView) (c : CourseView) : Type 0 where
+pub record IsAtQuery (s : SetupView) (c : ClockRunView) : Type 0 where
   pub running : start_fits c.start ≡ true
   pub due : IsDue s c
   pub unasked : unasked_of s c ≡ None
 
 -- a query after the start was settled is at a test that is due
-next-query : (s : SetupView) (c : CourseView) (number : ℕ) → (start_fits c.start ≡ true → IsAtRest s c) → is_none c.start ≡ false → has_ended (core_state s c number) ≡ false → IsAtQuery s c
+next-query : (s : SetupView) (c : ClockRunView) (number : ℕ) → (start_fits c.start ≡ true → IsAtRest s c) → is_none c.start ≡ false → has_ended (core_state s c number) ≡ false → IsAtQuery s c
 next-query s c number rest some on =
     let left : is_empty (left_of s c) ≡ false = sym (cond-false (is_none c.start) false (is_empty (left_of s c)) some) ∙ on in
     elim (cases_Bool (start_fits c.start)) [
-      | inr idle ↦ absurd (both_ways (is_empty (left_of s c)) left (ap is_empty (cond-false (start_fits c.start) (tests_left s c.round c.turn) [] idle)))
+      | inr idle ↦ absurd (both_ways (is_empty (left_of s c)) left (ap is_empty (cond-false (start_fits c.start) (tests_left s c.round c.place_in_round) [] idle)))
       | inl running ↦ elim (rest running) [
         | inl over ↦ absurd (both_ways (is_empty (left_of s c)) left (over-empty s c running over))
         | inr query ↦ record { running = running; due = query.0; unasked = query.1 }
       ]
     ]
 
-pub standing-query : (s : SetupView) (c : CourseView) (number : ℕ) (state : CoreState) → IsClockwork s c number → core_state s c number ≡ state → is_none c.start ≡ false → has_ended state ≡ false → IsAtQuery s c
+pub standing-query : (s : SetupView) (c : ClockRunView) (number : ℕ) (state : CoreState) → IsQuerySession s c number → core_state s c number ≡ state → is_none c.start ≡ false → has_ended state ≡ false → IsAtQuery s c
 standing-query s c number state h is some on = next-query s c number h.rest some (ap has_ended is ∙ on)
 
 -- the current query is that of the next test
-pub task-test : (s : SetupView) (c : CourseView) (number : ℕ) → IsCourse s c → IsAtQuery s c → Some (test_task s.scenario s.book (core_state s c number) (next_test s c)) ≡ task_of s.scenario s.book (core_state s c number)
+pub task-test : (s : SetupView) (c : ClockRunView) (number : ℕ) → IsClockRun s c → IsAtQuery s c → Some (test_task s.scenario s.book (core_state s c number) (next_test s c)) ≡ task_of s.scenario s.book (core_state s c number)
 task-test s c number h q =
-    sym (task-is s.scenario s.book (core_state s c number) c.start (next_test s c ∷ tests_left s c.round (c.turn + 1)) refl (due-left s c q.running h q.due)
+    sym (task-is s.scenario s.book (core_state s c number) c.start (next_test s c ∷ tests_left s c.round (c.place_in_round + 1)) refl (due-left s c q.running h q.due)
     ∙ cond-false (is_none c.start) _ _ (fits-some c.start q.running))
 
 -- no label is above the number of the stations on air
-pub labels-most : (s : SetupView) (c : CourseView) → IsCourse s c → (z : ℕ) → label_of c.past.parts z ≤ c.past.on_air
-labels-most s c h z = subst (λ n. label_of c.past.parts z ≤ n) (sym h.past.on_air) (h.past.parts.most z)
+pub labels-most : (s : SetupView) (c : ClockRunView) → IsClockRun s c → (z : ℕ) → label_of c.test_history.component_labels z ≤ c.test_history.on_air
+labels-most s c h z = subst (λ n. label_of c.test_history.component_labels z ≤ n) (sym h.test_history.on_air) (h.test_history.component_labels.most z)
 
 -- the labels determine what the next test asks about
-pub query-set : (s : SetupView) (c : CourseView) → IsCourse s c → IsAtQuery s c → touched_set s.book c.past.parts (next_test s c).station ≡ tested_set s.scenario s.book (clock_of s c) (next_test s c).station
+pub query-set : (s : SetupView) (c : ClockRunView) → IsClockRun s c → IsAtQuery s c → touched_set s.book c.test_history.component_labels (next_test s c).station ≡ tested_set s.scenario s.book (clock_of s c) (next_test s c).station
 query-set s c h q =
     let a = sound-auction s h.sound in
     let r = h.rule q.running in
-    let off = off-air s.scenario s.book (undecided_of c.past.steps) r.before (clock_of s c) a r.walked.clock (next_test s c).station q.due.active in
-    touched-tested s.scenario s.book (clock_of s c) (next_test s c).station c.past.parts a off.0 off.1 h.past.parts
+    let off = off-air s.scenario s.book (undecided_of c.test_history.steps) r.before (clock_of s c) a r.progress.clock (next_test s c).station q.due.active in
+    touched-tested s.scenario s.book (clock_of s c) (next_test s c).station c.test_history.component_labels a off.0 off.1 h.test_history.component_labels
 
 -- ---- what settles the query
 
@@ -166,7 +166,7 @@ start-shown sc book state shown fresh k settles =
     subst (λ o. MatchOption o (IsSettledBy sc book (start_task sc 1) shown) (λ unasked. shown ≡ unasked)) (sym asked) (shown-number sc book (start_task sc state.number) 1 shown by)
 
 -- what settles the next test's query settles its step properly
-pub step-shown : (s : SetupView) (c : CourseView) (number : ℕ) (shown : Shown) → IsCourse s c → IsAtQuery s c → SettlesQuery s.scenario s.book (core_state s c number) shown → IsNextShown s c shown
+pub step-shown : (s : SetupView) (c : ClockRunView) (number : ℕ) (shown : Shown) → IsClockRun s c → IsAtQuery s c → SettlesQuery s.scenario s.book (core_state s c number) shown → IsNextShown s c shown
 step-shown s c number shown h q settles =
     let t = next_test s c in
     let task : Task = test_task s.scenario s.book (core_state s c number) t in

@@ -1,4 +1,4 @@
--- What a test asks about, from the marks of the labels that its station touches, and by the rule. For `parts::touched_on`.
+-- What a test asks about, from the marks of the labels that its station touches, and by the rule. For `component_labels::touched_stations_on`.
 use Rattle.std.proofs.Common.{◌≡◌, ℕ, ◌+◌, ◌<◌, ◌≤◌, Bool, true, false, not, ◌==◌, ◌&&◌, ◌||◌, List, [], ◌∷◌, ◌++◌, filter, length, get_or, set, take, replicate, cond, Contains, refl, sym, ap, ◌∙◌, subst, ⊎_elim, eqb-true, eq-eqb, arith, append-nil, length-set, get_or-set_other, get_or-set_same}
 use Rattle.std.specs.List.{list_any}
 use Rattle.std.proofs.lemmas.Bool.{and_parts, and_from, or_cases, or_left, or_right, both_ways}
@@ -13,10 +13,10 @@ use Rattle.pack_defs.specs.Scenario.{facilities}
 use Rattle.pack_defs.specs.Components.{component}
 use Rattle.pack_defs.specs.ClockRule.{ClockState, asked_set, is_on_air}
 use Rattle.pack_defs.proofs.Chains.{ascending-filter}
-use Rattle.auction_core.specs.Parts.{IsPartsOf, PartsView, is_asked, label_in, label_of, labelled, marked, number_on_air, touched_set, touches}
+use Rattle.auction_core.specs.ComponentLabels.{AreLabelsOf, ComponentLabelsView, is_asked, label_in, label_of, labelled, marked, number_on_air, touched_set, touches}
 use Rattle.auction_core.specs.Rule.{IsAuction}
 use Rattle.auction_core.specs.State.{tested_set}
-use Rattle.auction_core.proofs.PartLemmas.{ListsNear, label-at, meets, meets-touches}
+use Rattle.auction_core.proofs.LabelLemmas.{ListsNear, label-at, meets, meets-touches}
 use Rattle.auction_core.proofs.Sets.{tested-rises}
 use Rattle.auction_core.proofs.Since.{asks-with-one}
 use Rattle.auction_core.proofs.Tied.{part-of}
@@ -68,27 +68,27 @@ or-none true b e = refl
 or-none false b e = e
 
 -- the marks of the neighbours determine what the station touches
-pub asked-is : (book : BookView) (parts : PartsView) (s most : ℕ) (near : List ℕ) (marks : List Bool) (set : List ℕ) → ListsNear book s near → ((z : ℕ) → label_of parts z ≤ most) → marks ≡ marked (label_of parts) near (replicate (most + 1) false) → set ≡ filter (λ z. is_asked s marks z (label_of parts z)) parts.stations → set ≡ touched_set book parts s
-asked-is book parts s most near marks set listed low are is =
-    is ∙ filter_agree (λ z. is_asked s marks z (label_of parts z)) (λ z. (z == s) || (not (label_of parts z == 0) && touches book (labelled parts) (label_of parts) s (label_of parts z))) (λ z. ap (λ b. (z == s) || b) (alike z)) parts.stations
+pub asked-is : (book : BookView) (component_labels : ComponentLabelsView) (s most : ℕ) (near : List ℕ) (marks : List Bool) (set : List ℕ) → ListsNear book s near → ((z : ℕ) → label_of component_labels z ≤ most) → marks ≡ marked (label_of component_labels) near (replicate (most + 1) false) → set ≡ filter (λ z. is_asked s marks z (label_of component_labels z)) component_labels.stations → set ≡ touched_set book component_labels s
+asked-is book component_labels s most near marks set listed low are is =
+    is ∙ filter_agree (λ z. is_asked s marks z (label_of component_labels z)) (λ z. (z == s) || (not (label_of component_labels z == 0) && touches book (labelled component_labels) (label_of component_labels) s (label_of component_labels z))) (λ z. ap (λ b. (z == s) || b) (alike z)) component_labels.stations
   where
     none : List Bool
     none = replicate (most + 1) false
 
-    inside : (z : ℕ) → label_of parts z < length none
+    inside : (z : ℕ) → label_of component_labels z < length none
     inside z = let h = low z in omega (arith, h, length-replicate (most + 1) false)
 
-    alike : (z : ℕ) → (not (label_of parts z == 0) && get_or marks (label_of parts z) false) ≡ (not (label_of parts z == 0) && touches book (labelled parts) (label_of parts) s (label_of parts z))
+    alike : (z : ℕ) → (not (label_of component_labels z == 0) && get_or marks (label_of component_labels z) false) ≡ (not (label_of component_labels z == 0) && touches book (labelled component_labels) (label_of component_labels) s (label_of component_labels z))
     alike z =
-        let l : ℕ = label_of parts z in
+        let l : ℕ = label_of component_labels z in
         let h = low z in
-        (elim (l == 0) as (λ b. (l == 0) ≡ b → (not b && get_or marks l false) ≡ (not b && touches book (labelled parts) (label_of parts) s l)) [
+        (elim (l == 0) as (λ b. (l == 0) ≡ b → (not b && get_or marks l false) ≡ (not b && touches book (labelled component_labels) (label_of component_labels) s l)) [
           | true ↦ λ e. refl
           | false ↦ λ e.
               ap (λ xs. get_or xs l false) are
-              ∙ (has-mark (label_of parts) near none l inside
-              ∙ (or-none (list_any (λ v. label_of parts v == l) near) (get_or none l false) (get_or-replicate (most + 1) l false false (omega (arith, h)))
-              ∙ (some-label (label_of parts) near l e ∙ meets-touches book parts s l near listed)))
+              ∙ (has-mark (label_of component_labels) near none l inside
+              ∙ (or-none (list_any (λ v. label_of component_labels v == l) near) (get_or none l false) (get_or-replicate (most + 1) l false false (omega (arith, h)))
+              ∙ (some-label (label_of component_labels) near l e ∙ meets-touches book component_labels s l near listed)))
         ]) refl
 
 -- ---- one more station of the pass
@@ -114,36 +114,36 @@ module _ (s z l i d : ℕ) (marks : List Bool) (fs ls found : List ℕ) (up : is
 -- ---- by the rule
 
 -- a test of a station off air asks about the stations that the labels determine
-pub touched-tested : (sc : Scenario) (book : BookView) (clock : ClockState) (s : ℕ) (parts : PartsView) → IsAuction sc book → Contains (facilities sc) s → is_on_air clock s ≡ false → IsPartsOf sc book clock parts → touched_set book parts s ≡ tested_set sc book clock s
-touched-tested sc book clock s parts a known off h =
-    same-ascending (touched_set book parts s) (tested_set sc book clock s)
-    (ascending-filter test parts.stations (subst (λ xs. is_ascending xs ≡ true) (sym h.stations) (ascending-from (facilities sc) a.stations)))
+pub touched-tested : (sc : Scenario) (book : BookView) (clock : ClockState) (s : ℕ) (component_labels : ComponentLabelsView) → IsAuction sc book → Contains (facilities sc) s → is_on_air clock s ≡ false → AreLabelsOf sc book clock component_labels → touched_set book component_labels s ≡ tested_set sc book clock s
+touched-tested sc book clock s component_labels a known off h =
+    same-ascending (touched_set book component_labels s) (tested_set sc book clock s)
+    (ascending-filter test component_labels.stations (subst (λ xs. is_ascending xs ≡ true) (sym h.stations) (ascending-from (facilities sc) a.stations)))
     (tested-rises sc book clock s a)
     (λ z there.
-    let (listed, is) = Contains-from_filter test parts.stations z (is_in-gives (touched_set book parts s) z there) in
+    let (listed, is) = Contains-from_filter test component_labels.stations z (is_in-gives (touched_set book component_labels s) z there) in
     word z ∙ ⊎_elim
     (λ e. or_left (z == s) (is_in on z && touched z) e)
     (λ k.
     let both = and_parts (not (label z == 0)) (touched z) k in
-    or_right (z == s) (is_in on z && touched z) (and_from (is_in on z) (touched z) (is_in-from on z (Contains-filter (λ v. not (label v == 0)) parts.stations z listed both.0)) both.1))
+    or_right (z == s) (is_in on z && touched z) (and_from (is_in on z) (touched z) (is_in-from on z (Contains-filter (λ v. not (label v == 0)) component_labels.stations z listed both.0)) both.1))
     (or_cases (z == s) (not (label z == 0) && touched z) is))
-    (λ z there. is_in-from (touched_set book parts s) z
+    (λ z there. is_in-from (touched_set book component_labels s) z
     (⊎_elim
-    (λ e. Contains-filter test parts.stations z
+    (λ e. Contains-filter test component_labels.stations z
     (subst (λ xs. Contains xs z) (sym h.stations) (subst (λ v. Contains (facilities sc) v) (sym (eqb-true z s e)) known))
     (or_left (z == s) (not (label z == 0) && touched z) e))
     (λ k.
     let both = and_parts (is_in on z) (touched z) k in
-    let (listed, some) = Contains-from_filter (λ v. not (label v == 0)) parts.stations z (is_in-gives on z both.0) in
-    Contains-filter test parts.stations z listed
+    let (listed, some) = Contains-from_filter (λ v. not (label v == 0)) component_labels.stations z (is_in-gives on z both.0) in
+    Contains-filter test component_labels.stations z listed
     (or_right (z == s) (not (label z == 0) && touched z) (and_from (not (label z == 0)) (touched z) some both.1)))
     (or_cases (z == s) (is_in on z && touched z) (sym (word z) ∙ there))))
   where
     label : ℕ → ℕ
-    label = label_of parts
+    label = label_of component_labels
 
     on : List ℕ
-    on = labelled parts
+    on = labelled component_labels
 
     touched : ℕ → Bool
     touched z = touches book on label s (label z)
@@ -152,4 +152,4 @@ touched-tested sc book clock s parts a known off h =
     test z = (z == s) || (not (label z == 0) && touched z)
 
     word : (z : ℕ) → is_in (component book (asked_set sc clock s) s) z ≡ ((z == s) || (is_in on z && touched z))
-    word z = part-of book on (number_on_air clock) label h.are (asked_set sc clock s) s (asks-with-one sc book clock parts s known off h) z
+    word z = part-of book on (number_on_air clock) label h.are (asked_set sc clock s) s (asks-with-one sc book clock component_labels s known off h) z

@@ -20,10 +20,10 @@ use Rattle.cert_types.specs.Valid.{IsValid}
 use Rattle.auction_core.specs.declared.record.Shown.{Shown}
 use Rattle.auction_core.specs.declared.record.Shown.TheVariants.{Empty, Fits, Same, NoChannel, Refuted, Outside, Undecided}
 use Rattle.auction_core.specs.declared.record.Step.{Step}
-use Rattle.auction_core.specs.State.{CoreState, test_of, restricted, tested_set, test_task, shows_room, delta_of, settled, settled_unasked, go_on}
+use Rattle.auction_core.specs.State.{CoreState, test_of, restricted, tested_set, test_task, shows_room, delta_of, settled, settled_unasked, advance_to_query}
 use Rattle.auction_core.specs.Backed.{is_undecided, undecided_of, IsValidOf, AreReceipts, IsSettledBy, IsStepShown, after_steps, after_start}
 use Rattle.auction_core.specs.Rule.{IsAuction}
-use Rattle.auction_core.specs.Walked.{IsWalked}
+use Rattle.auction_core.specs.ClockProgress.{IsClockProgress}
 use Rattle.auction_core.proofs.Kept.{IsUnderWay}
 use Rattle.auction_core.proofs.Answers.{answer-number}
 use Rattle.auction_core.proofs.Steps.{after_steps-steps, after_steps-push, AreShown-push, map-push, undecided-push-false, undecided-push-true, same_test, same-back, new-test, bidder, not-on-air}
@@ -117,7 +117,7 @@ agree U before t u new c =
     or-false false = refl
 
 -- the undecided tests before and after the step agree on the earlier tests
-still : (sc : Scenario) (book : BookView) (start : Shown) (state : CoreState) (before after : List ClockTest) (t : ClockTest) (shown : Shown) → IsAuction sc book → IsWalked sc book start state before → clock_tests sc state.order ≡ before ++ t ∷ after →
+still : (sc : Scenario) (book : BookView) (start : Shown) (state : CoreState) (before after : List ClockTest) (t : ClockTest) (shown : Shown) → IsAuction sc book → IsClockProgress sc book start state before → clock_tests sc state.order ≡ before ++ t ∷ after →
     (u : ClockTest) → Contains before u → is_listed (undecided_of (state.steps ++ step_of t shown ∷ [])) u ≡ is_listed (undecided_of state.steps) u
 still sc book start state before after t shown a w parts u c =
     ⊎_elim
@@ -126,7 +126,7 @@ still sc book start state before after t shown a w parts u c =
     (cases_Bool (is_undecided shown))
 
 -- the clock after the step
-step-clock : (sc : Scenario) (book : BookView) (start : Shown) (state : CoreState) (before after : List ClockTest) (t : ClockTest) (shown : Shown) → IsAuction sc book → IsWalked sc book start state before → clock_tests sc state.order ≡ before ++ t ∷ after → is_active state.clock t.station ≡ true → IsStepShown sc book state (step_of t shown) →
+step-clock : (sc : Scenario) (book : BookView) (start : Shown) (state : CoreState) (before after : List ClockTest) (t : ClockTest) (shown : Shown) → IsAuction sc book → IsClockProgress sc book start state before → clock_tests sc state.order ≡ before ++ t ∷ after → is_active state.clock t.station ≡ true → IsStepShown sc book state (step_of t shown) →
     after_answer sc state.clock t (shows_room shown) ≡ after_tests sc book (undecided_of (state.steps ++ step_of t shown ∷ [])) (before ++ t ∷ []) (opening_state sc)
 step-clock sc book start state before after t shown a w parts active h =
     let U : List ClockTest = undecided_of state.steps in
@@ -146,7 +146,7 @@ step-clock sc book start state before after t shown a w parts active h =
     (cases_Bool (is_undecided shown))
 
 -- the tests asked after the step
-step-tests : (sc : Scenario) (book : BookView) (start : Shown) (state : CoreState) (before after : List ClockTest) (t : ClockTest) (shown : Shown) → IsAuction sc book → IsWalked sc book start state before → clock_tests sc state.order ≡ before ++ t ∷ after → is_active state.clock t.station ≡ true →
+step-tests : (sc : Scenario) (book : BookView) (start : Shown) (state : CoreState) (before after : List ClockTest) (t : ClockTest) (shown : Shown) → IsAuction sc book → IsClockProgress sc book start state before → clock_tests sc state.order ≡ before ++ t ∷ after → is_active state.clock t.station ≡ true →
     map test_of (state.steps ++ step_of t shown ∷ []) ≡ asked_from sc book (undecided_of (state.steps ++ step_of t shown ∷ [])) (before ++ t ∷ []) (opening_state sc)
 step-tests sc book start state before after t shown a w parts active =
     let U : List ClockTest = undecided_of state.steps in
@@ -161,17 +161,17 @@ step-tests sc book start state before after t shown a w parts active =
     sym (asked_in_turn sc book V before (t ∷ []) op)))
 
 -- the properly settled step of an active station's test moves the state as the rule does
-pub walk-step : (sc : Scenario) (book : BookView) (start : Shown) (state : CoreState) (before after : List ClockTest) (t : ClockTest) (shown : Shown) → IsAuction sc book → IsWalked sc book start state before → clock_tests sc state.order ≡ before ++ t ∷ after → is_active state.clock t.station ≡ true → IsStepShown sc book state (step_of t shown) → IsWalked sc book start (settled sc state t shown) (before ++ t ∷ [])
+pub walk-step : (sc : Scenario) (book : BookView) (start : Shown) (state : CoreState) (before after : List ClockTest) (t : ClockTest) (shown : Shown) → IsAuction sc book → IsClockProgress sc book start state before → clock_tests sc state.order ≡ before ++ t ∷ after → is_active state.clock t.station ≡ true → IsStepShown sc book state (step_of t shown) → IsClockProgress sc book start (settled sc state t shown) (before ++ t ∷ [])
 walk-step sc book start state before after t shown a w parts active h =
-    let walked : CoreState = after_steps sc (after_start sc state.order start) state.steps in
+    let progress : CoreState = after_steps sc (after_start sc state.order start) state.steps in
     let of = new-map sc book state t shown (ready sc book (undecided_of state.steps) before state t.station a w.clock (w.clean, w.stations) active) w.fits active h in
     record {
       clock = step-clock sc book start state before after t shown a w parts active h;
       tests = step-tests sc book start state before after t shown a w parts active;
-      shown = AreShown-push sc book (after_start sc state.order start) state.steps (step_of t shown) w.shown (IsStepShown-same sc book walked state (step_of t shown) w.same_clock w.same_map (after_steps-steps sc (after_start sc state.order start) state.steps) h);
+      shown = AreShown-push sc book (after_start sc state.order start) state.steps (step_of t shown) w.shown (IsStepShown-same sc book progress state (step_of t shown) w.same_clock w.same_map (after_steps-steps sc (after_start sc state.order start) state.steps) h);
       same_clock = ap (λ z. z.clock) (after_steps-push sc (after_start sc state.order start) state.steps (step_of t shown)) ∙ ap (λ c. after_answer sc c t (shows_room shown)) w.same_clock;
       same_map = ap (λ z. z.map) (after_steps-push sc (after_start sc state.order start) state.steps (step_of t shown))
-          ∙ (ap (λ xs. if is_on_air (after_answer sc walked.clock t (shows_room shown)) t.station then overlaid walked.map (delta_of xs t.station shown) else walked.map) (after_steps-steps sc (after_start sc state.order start) state.steps)
+          ∙ (ap (λ xs. if is_on_air (after_answer sc progress.clock t (shows_room shown)) t.station then overlaid progress.map (delta_of xs t.station shown) else progress.map) (after_steps-steps sc (after_start sc state.order start) state.steps)
           ∙ ap₂ (λ c m. if is_on_air (after_answer sc c t (shows_room shown)) t.station then overlaid m (delta_of state.steps t.station shown) else m) w.same_clock w.same_map);
       clean = of.0;
       stations = of.1;
@@ -179,7 +179,7 @@ walk-step sc book start state before after t shown a w parts active h =
     }
 
 -- a test of a station that is not active is skipped
-pub walk-skip : (sc : Scenario) (book : BookView) (start : Shown) (state : CoreState) (before : List ClockTest) (t : ClockTest) → IsWalked sc book start state before → is_active state.clock t.station ≡ false → IsWalked sc book start state (before ++ t ∷ [])
+pub walk-skip : (sc : Scenario) (book : BookView) (start : Shown) (state : CoreState) (before : List ClockTest) (t : ClockTest) → IsClockProgress sc book start state before → is_active state.clock t.station ≡ false → IsClockProgress sc book start state (before ++ t ∷ [])
 walk-skip sc book start state before t w idle =
     let U : List ClockTest = undecided_of state.steps in
     let op : ClockState = opening_state sc in
@@ -197,10 +197,10 @@ walk-skip sc book start state before t w idle =
     }
 
 -- the state at the next query, or at the end, is where the rule leads
-pub go-on-keeps : (sc : Scenario) (book : BookView) (start : Shown) (ts : List ClockTest) (state : CoreState) (before : List ClockTest) → IsAuction sc book → IsWalked sc book start state before → clock_tests sc state.order ≡ before ++ ts → IsUnderWay sc book start (go_on sc book ts state)
+pub go-on-keeps : (sc : Scenario) (book : BookView) (start : Shown) (ts : List ClockTest) (state : CoreState) (before : List ClockTest) → IsAuction sc book → IsClockProgress sc book start state before → clock_tests sc state.order ≡ before ++ ts → IsUnderWay sc book start (advance_to_query sc book ts state)
 go-on-keeps sc book start [] state before a w parts = record {
   before = before;
-  parts = sym parts;
+  all_tests = sym parts;
   clock = w.clock;
   tests = w.tests;
   shown = w.shown;
@@ -213,13 +213,13 @@ go-on-keeps sc book start [] state before a w parts = record {
 go-on-keeps sc book start (t ∷ ts) state before a w parts =
     let parts' : clock_tests sc state.order ≡ (before ++ t ∷ []) ++ ts = parts ∙ sym (append_assoc before (t ∷ []) ts) in
     let at : CoreState = record state { left = t ∷ ts } in
-    let inner : (o : Option Shown) → is_active state.clock t.station ≡ true → settled_unasked sc book state t ≡ o → IsUnderWay sc book start (option_map_or (go_on sc book ts) (option_map (settled sc state t) o) at) = λ o. elim o as (λ o. is_active state.clock t.station ≡ true → settled_unasked sc book state t ≡ o → IsUnderWay sc book start (option_map_or (go_on sc book ts) (option_map (settled sc state t) o) at)) [
+    let inner : (o : Option Shown) → is_active state.clock t.station ≡ true → settled_unasked sc book state t ≡ o → IsUnderWay sc book start (option_map_or (advance_to_query sc book ts) (option_map (settled sc state t) o) at) = λ o. elim o as (λ o. is_active state.clock t.station ≡ true → settled_unasked sc book state t ≡ o → IsUnderWay sc book start (option_map_or (advance_to_query sc book ts) (option_map (settled sc state t) o) at)) [
       | Some u ↦ λ active is.
           let step : IsStepShown sc book state (step_of t u) = subst (λ o. MatchOption o (IsSettledBy sc book (test_task sc book state t) u) (λ unasked. u ≡ unasked)) (sym is) refl in
           go-on-keeps sc book start ts (settled sc state t u) (before ++ t ∷ []) a (walk-step sc book start state before ts t u a w parts active step) parts'
       | None ↦ λ active is. record {
         before = before;
-        parts = sym parts;
+        all_tests = sym parts;
         clock = w.clock;
         tests = w.tests;
         shown = w.shown;
@@ -230,7 +230,7 @@ go-on-keeps sc book start (t ∷ ts) state before a w parts =
         query = (active, is);
       }
     ] in
-    let outer : (b : Bool) → is_active state.clock t.station ≡ b → IsUnderWay sc book start (option_map_or (go_on sc book ts) (if b then option_map (settled sc state t) (settled_unasked sc book state t) else Some state) at) = λ b. elim b as (λ b. is_active state.clock t.station ≡ b → IsUnderWay sc book start (option_map_or (go_on sc book ts) (if b then option_map (settled sc state t) (settled_unasked sc book state t) else Some state) at)) [
+    let outer : (b : Bool) → is_active state.clock t.station ≡ b → IsUnderWay sc book start (option_map_or (advance_to_query sc book ts) (if b then option_map (settled sc state t) (settled_unasked sc book state t) else Some state) at) = λ b. elim b as (λ b. is_active state.clock t.station ≡ b → IsUnderWay sc book start (option_map_or (advance_to_query sc book ts) (if b then option_map (settled sc state t) (settled_unasked sc book state t) else Some state) at)) [
       | true ↦ λ active. inner (settled_unasked sc book state t) active refl
       | false ↦ λ idle. go-on-keeps sc book start ts state (before ++ t ∷ []) a (walk-skip sc book start state before t w idle) parts'
     ] in

@@ -12,7 +12,7 @@ use Rattle.auction_core.specs.declared.record.Shown.{Shown}
 use Rattle.auction_core.specs.State.{CoreState, settled, test_of}
 use Rattle.auction_core.specs.Backed.{AreShown, after_steps}
 use Rattle.auction_core.specs.Rule.{IsAuction}
-use Rattle.auction_core.specs.Walked.{FitsStand, IsWalked}
+use Rattle.auction_core.specs.ClockProgress.{FitsStayClean, IsClockProgress}
 use Rattle.auction_core.proofs.Sets.{fits-stand-step}
 use Rattle.auction_core.proofs.Walk.{off-air, walk-step, walk-skip, ready}
 use Rattle.auction_core.proofs.Room.{IsOf, new-map}
@@ -44,8 +44,8 @@ same-tests t x e =
 -- the tests that are skipped before the next one that is asked
 pub record IsPassed (sc : Scenario) (book : BookView) (start : Shown) (state : CoreState) (left : List ClockTest) : Type 0 where
   pub before : List ClockTest
-  pub walked : IsWalked sc book start state before
-  pub parts : clock_tests sc state.order ≡ before ++ left
+  pub progress : IsClockProgress sc book start state before
+  pub all_tests : clock_tests sc state.order ≡ before ++ left
   pub asked : (t : ClockTest) (ts : List ClockTest) → left ≡ t ∷ ts → is_active state.clock t.station ≡ true
 
 head-is : (t u : ClockTest) (ts us : List ClockTest) → t ∷ ts ≡ u ∷ us → t ≡ u
@@ -54,9 +54,9 @@ head-is t u ts us e = cc
 no-head : (u : ClockTest) (us : List ClockTest) → [] ≡ u ∷ us → ⊥
 no-head u us e = cc
 
-pub passed : (sc : Scenario) (book : BookView) (start : Shown) (state : CoreState) (before ts : List ClockTest) → IsWalked sc book start state before → clock_tests sc state.order ≡ before ++ ts
+pub passed : (sc : Scenario) (book : BookView) (start : Shown) (state : CoreState) (before ts : List ClockTest) → IsClockProgress sc book start state before → clock_tests sc state.order ≡ before ++ ts
     → IsPassed sc book start state (next_asked state.clock ts)
-passed sc book start state before [] w parts = record { before = before; walked = w; parts = parts; asked = λ u us e. absurd (no-head u us e) }
+passed sc book start state before [] w parts = record { before = before; progress = w; all_tests = parts; asked = λ u us e. absurd (no-head u us e) }
 passed sc book start state before (t ∷ ts) w parts =
     go (is_active state.clock t.station) refl
     (λ idle. passed sc book start state (before ++ t ∷ []) ts (walk-skip sc book start state before t w idle) (parts ∙ sym (append_assoc before (t ∷ []) ts)))
@@ -65,18 +65,18 @@ passed sc book start state before (t ∷ ts) w parts =
         → IsPassed sc book start state (if b then t ∷ ts else next_asked state.clock ts)
     go true active rest = record {
       before = before;
-      walked = w;
-      parts = parts;
+      progress = w;
+      all_tests = parts;
       asked = λ u us e. subst (λ (v : ClockTest). is_active state.clock v.station ≡ true) (head-is t u ts us e) active;
     }
     go false idle rest = rest idle
 
 -- what steps without a fault lead to
 pub record IsFollowed (sc : Scenario) (book : BookView) (start : Shown) (state : CoreState) (xs : List TranscriptStep) : Type 0 where
-  pub walked : IsWalked sc book start (after_steps sc state (steps_in xs)) (clock_tests sc state.order)
+  pub progress : IsClockProgress sc book start (after_steps sc state (steps_in xs)) (clock_tests sc state.order)
   pub numbered : AreNumbered sc book state xs
 
-pub followed : (sc : Scenario) (book : BookView) (start : Shown) (step : ℕ) (state : CoreState) (before ts : List ClockTest) (xs : List TranscriptStep) → IsAuction sc book → IsWalked sc book start state before → clock_tests sc state.order ≡ before ++ ts
+pub followed : (sc : Scenario) (book : BookView) (start : Shown) (step : ℕ) (state : CoreState) (before ts : List ClockTest) (xs : List TranscriptStep) → IsAuction sc book → IsClockProgress sc book start state before → clock_tests sc state.order ≡ before ++ ts
     → steps_fault sc book step state ts xs ≡ None → IsFollowed sc book start state xs
 unfolding steps_fault
 followed sc book start step state before ts [] a w parts e =
@@ -84,7 +84,7 @@ followed sc book start step state before ts [] a w parts e =
     go (next_asked state.clock ts) p e
   where
     go : (left : List ClockTest) → IsPassed sc book start state left → fault_at_end step left ≡ None → IsFollowed sc book start state []
-    go [] p f = record { walked = subst (IsWalked sc book start state) (sym (p.parts ∙ append-nil p.before)) p.walked; numbered = tt }
+    go [] p f = record { progress = subst (IsClockProgress sc book start state) (sym (p.all_tests ∙ append-nil p.before)) p.progress; numbered = tt }
     go (t ∷ us) p f = absurd (absurd-fault (record { step = step; why = Order }) f)
 followed sc book start step state before ts (x ∷ xs) a w parts e =
     go (next_asked state.clock ts) (passed sc book start state before ts w parts) e
@@ -94,7 +94,7 @@ followed sc book start step state before ts (x ∷ xs) a w parts e =
     next = settled sc state (test_of x.step) x.step.shown
 
     Rest : Type 0
-    Rest = (before' us : List ClockTest) → IsWalked sc book start next before' → clock_tests sc next.order ≡ before' ++ us → steps_fault sc book (step + 1) next us xs ≡ None → IsFollowed sc book start next xs
+    Rest = (before' us : List ClockTest) → IsClockProgress sc book start next before' → clock_tests sc next.order ≡ before' ++ us → steps_fault sc book (step + 1) next us xs ≡ None → IsFollowed sc book start next xs
 
     go : (left : List ClockTest) → IsPassed sc book start state left → at_test sc book step state x left (λ rest. steps_fault sc book (step + 1) next rest xs) ≡ None → Rest → IsFollowed sc book start state (x ∷ xs)
     go [] p f more = absurd (absurd-fault (record { step = step; why = Order }) f)
@@ -104,10 +104,10 @@ followed sc book start step state before ts (x ∷ xs) a w parts e =
         let same : t ≡ test_of x.step = same-tests t x test.0 in
         let shown = step-shown sc book state x both.0 in
         let active : is_active state.clock x.step.station ≡ true = ap (λ (u : ClockTest). is_active state.clock u.station) (sym same) ∙ p.asked t us refl in
-        let parts' : clock_tests sc state.order ≡ p.before ++ test_of x.step ∷ us = p.parts ∙ ap (λ (u : ClockTest). p.before ++ u ∷ us) same in
-        let w' = walk-step sc book start state p.before us (test_of x.step) x.step.shown a p.walked parts' active shown.0 in
+        let parts' : clock_tests sc state.order ≡ p.before ++ test_of x.step ∷ us = p.all_tests ∙ ap (λ (u : ClockTest). p.before ++ u ∷ us) same in
+        let w' = walk-step sc book start state p.before us (test_of x.step) x.step.shown a p.progress parts' active shown.0 in
         let rest = more (p.before ++ test_of x.step ∷ []) us w' (parts' ∙ sym (append_assoc p.before (test_of x.step ∷ []) us)) both.1 in
-        record { walked = rest.walked; numbered = (shown.1, rest.numbered) }
+        record { progress = rest.progress; numbered = (shown.1, rest.numbered) }
 
 -- ---- from the rule to no fault
 
@@ -129,7 +129,7 @@ unfolding steps_fault
 active-fault sc book step state t ts x xs active same none rest = rw (active, is-test t x same, none) rest
 
 -- properly settled and numbered steps of the tests that the rule asks have no fault
-pub ruled : (sc : Scenario) (book : BookView) (U ts done : List ClockTest) (step : ℕ) (state : CoreState) (xs : List TranscriptStep) → IsAuction sc book → state.clock ≡ after_tests sc book U done (opening_state sc) → IsOf sc book state.clock state.map → FitsStand sc book state
+pub ruled : (sc : Scenario) (book : BookView) (U ts done : List ClockTest) (step : ℕ) (state : CoreState) (xs : List TranscriptStep) → IsAuction sc book → state.clock ≡ after_tests sc book U done (opening_state sc) → IsOf sc book state.clock state.map → FitsStayClean sc book state
     → map test_of (steps_in xs) ≡ asked_from sc book U ts state.clock → AreShown sc book state (steps_in xs) → AreNumbered sc book state xs → AreListed U (steps_in xs)
     → steps_fault sc book step state ts xs ≡ None
 unfolding steps_fault
@@ -137,7 +137,7 @@ ruled sc book U [] done step state [] a e of fits tests shown numbered listed = 
 ruled sc book U [] done step state (x ∷ xs) a e of fits tests shown numbered listed = absurd cc
 ruled sc book U (t ∷ ts) done step state xs a e of fits tests shown numbered listed =
     let next : ClockTest → ClockState = λ u. after_test sc book U state.clock u in
-    let turn : (u : ClockTest) → next u ≡ after_tests sc book U (done ++ u ∷ []) (opening_state sc) = λ u.
+    let place_in_round : (u : ClockTest) → next u ≡ after_tests sc book U (done ++ u ∷ []) (opening_state sc) = λ u.
     ap (λ c. after_test sc book U c u) e ∙ sym (in_turn sc book U done (u ∷ []) (opening_state sc)) in
     let asked : (ys : List TranscriptStep) → is_active state.clock t.station ≡ true → map test_of (steps_in ys) ≡ t ∷ asked_from sc book U ts (next t) → AreShown sc book state (steps_in ys) → AreNumbered sc book state ys → AreListed U (steps_in ys) → steps_fault sc book step state (t ∷ ts) ys ≡ None = λ ys active. elim ys as (λ ys. map test_of (steps_in ys) ≡ t ∷ asked_from sc book U ts (next t) → AreShown sc book state (steps_in ys) → AreNumbered sc book state ys → AreListed U (steps_in ys) → steps_fault sc book step state (t ∷ ts) ys ≡ None) [
       | [] ↦ λ m s n l. absurd cc
@@ -150,7 +150,7 @@ ruled sc book U (t ∷ ts) done step state xs a e of fits tests shown numbered l
           let stand = fits-stand-step sc book state (test_of x.step) x.step.shown a (off-air sc book U done state.clock a e) active' fits s.0 in
           let moved' : (settled sc state (test_of x.step) x.step.shown).clock ≡ next t = moved ∙ ap next same in
           active-fault sc book step state t ts x ys active same (step-none sc book state x s.0 n.0)
-          (ruled sc book U ts (done ++ t ∷ []) (step + 1) (settled sc state (test_of x.step) x.step.shown) ys a (moved' ∙ turn t) (new-map sc book state (test_of x.step) x.step.shown r fits active' s.0) stand
+          (ruled sc book U ts (done ++ t ∷ []) (step + 1) (settled sc state (test_of x.step) x.step.shown) ys a (moved' ∙ place_in_round t) (new-map sc book state (test_of x.step) x.step.shown r fits active' s.0) stand
           (rest ∙ ap (asked_from sc book U ts) (sym moved')) s.1 n.1 (λ y c. l y (Contains-there x.step y (steps_in ys) c)))
     ] in
     let go : (b : Bool) → is_active state.clock t.station ≡ b → map test_of (steps_in xs) ≡ (if b then t ∷ asked_from sc book U ts (next t) else asked_from sc book U ts state.clock) → steps_fault sc book step state (t ∷ ts) xs ≡ None = λ b. elim b as (λ b. is_active state.clock t.station ≡ b → map test_of (steps_in xs) ≡ (if b then t ∷ asked_from sc book U ts (next t) else asked_from sc book U ts state.clock) → steps_fault sc book step state (t ∷ ts) xs ≡ None) [
@@ -158,6 +158,6 @@ ruled sc book U (t ∷ ts) done step state xs a e of fits tests shown numbered l
       | false ↦ λ idle m.
           let same : next t ≡ state.clock = test_idle book U sc state.clock t idle in
           idle-fault sc book step state t ts xs idle ∙
-          ruled sc book U ts (done ++ t ∷ []) step state xs a (sym same ∙ turn t) of fits m shown numbered listed
+          ruled sc book U ts (done ++ t ∷ []) step state xs a (sym same ∙ place_in_round t) of fits m shown numbered listed
     ] in
     go (is_active state.clock t.station) refl tests

@@ -7,8 +7,8 @@ use Rattle.auction_core.specs.declared.posting.Posting.{Posting}
 use Rattle.auction_core.specs.declared.posting.Reply.{Reply}
 use Rattle.auction_core.specs.declared.posting.Said.{Said}
 use Rattle.auction_core.specs.declared.posting.Said.TheVariants.{Good, Bad}
-use Rattle.auction_core.specs.Clockwork.{ClockworkView}
-use Rattle.auction_core.specs.Notes.{NotesView}
+use Rattle.auction_core.specs.QuerySession.{QuerySessionView}
+use Rattle.auction_core.specs.PendingReceipts.{PendingReceiptsView}
 use Rattle.auction_core.specs.Replay.{EntryView, kept_answer, replay_from}
 use Rattle.auction_core.specs.Rule.{KeepsTheRule}
 use Rattle.auction_core.specs.Setup.{IsOfAuction}
@@ -25,20 +25,20 @@ pub record AuctionView : Type 0 where
   pub spare : ℕ
 
 -- The state of an auction between two postings: that of its query session, with the pending receipts.
-abbrev pub state_at : ClockworkView → NotesView → CoreState
-state_at clockwork notes = record clockwork.state { noted = notes.noted }
+abbrev pub state_at : QuerySessionView → PendingReceiptsView → CoreState
+state_at query_session pending_receipts = record query_session.state { noted = pending_receipts.noted }
 
 -- Whether a posting may be applied: there is room for its steps and receipts, a slot for each worker's receipt, and the clock rule
 -- is kept.
-pub record IsReady (clockwork : ClockworkView) (notes : NotesView) : Type 0 where
-  pub steps : clockwork.ready ≡ true
-  pub receipts : notes.ready ≡ true
-  pub places : notes.workers ≡ length clockwork.scenario.workers
-  pub rule : KeepsTheRule clockwork.scenario clockwork.book (state_at clockwork notes)
+pub record IsReady (query_session : QuerySessionView) (pending_receipts : PendingReceiptsView) : Type 0 where
+  pub steps : query_session.ready ≡ true
+  pub receipts : pending_receipts.ready ≡ true
+  pub places : pending_receipts.workers ≡ length query_session.scenario.workers
+  pub rule : KeepsTheRule query_session.scenario query_session.book (state_at query_session pending_receipts)
 
 -- The number of postings there is room for, one or none, given room for this many entries of the history.
-abbrev pub spare_of : ClockworkView → NotesView → ℕ → ℕ
-spare_of clockwork notes entries = if clockwork.ready && (notes.ready && nat_lt 0 entries) then 1 else 0
+abbrev pub spare_of : QuerySessionView → PendingReceiptsView → ℕ → ℕ
+spare_of query_session pending_receipts entries = if query_session.ready && (pending_receipts.ready && nat_lt 0 entries) then 1 else 0
 
 -- Whether the scenario and book are those of an auction, the opened state keeps the clock rule, and the history replays from the
 -- opened state to this state.
@@ -50,21 +50,21 @@ pub record IsReplayed (sc : Scenario) (book : BookView) (opened : CoreState) (hi
 
 -- What the program keeps between two postings: a slot for each worker's receipt, and a history that replays from the opened state
 -- to the current state.
-pub record IsBetween (clockwork : ClockworkView) (notes : NotesView) (opened : CoreState) (history : List EntryView) : Type 0 where
-  pub places : notes.workers ≡ length clockwork.scenario.workers
-  pub replayed : IsReplayed clockwork.scenario clockwork.book opened history (state_at clockwork notes)
+pub record IsBetween (query_session : QuerySessionView) (pending_receipts : PendingReceiptsView) (opened : CoreState) (history : List EntryView) : Type 0 where
+  pub places : pending_receipts.workers ≡ length query_session.scenario.workers
+  pub replayed : IsReplayed query_session.scenario query_session.book opened history (state_at query_session pending_receipts)
 
 -- The accepted answer; `None` if it was rejected.
-abbrev pub let_through : Said → Option Answer
-let_through (Good certified) = Some certified.answer
-let_through (Bad place) = None
+abbrev pub accepted_answer : Said → Option Answer
+accepted_answer (Good certified) = Some certified.answer
+accepted_answer (Bad place) = None
 
 -- The history entry of a posting whose answer was checked, with its reply.
-abbrev pub entry_told : Posting → Reply → EntryView
-entry_told posting reply =
+abbrev pub entry_with_reply : Posting → Reply → EntryView
+entry_with_reply posting reply =
     record {
       worker = posting.worker;
       number = posting.number;
       reply = reply;
-      answer = option_and_then (kept_answer reply) (let_through posting.said);
+      answer = option_and_then (kept_answer reply) (accepted_answer posting.said);
     }

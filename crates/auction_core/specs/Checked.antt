@@ -17,9 +17,9 @@ use Rattle.auction_core.specs.declared.record.Shown.{Shown}
 use Rattle.auction_core.specs.declared.record.Shown.TheVariants.{Empty, Fits, Same, NoChannel, Refuted, Outside, Undecided}
 use Rattle.auction_core.specs.declared.record.Step.{Step}
 use Rattle.auction_core.specs.declared.step_list.StepLine.{StepLine}
-use Rattle.auction_core.specs.declared.step_list.Way.{Way}
-use Rattle.auction_core.specs.declared.step_list.Way.TheVariants.{Verdict, LikeBefore, Bare}
-use Rattle.auction_core.specs.State.{CoreState, answered, go_on, has_ended, task_of}
+use Rattle.auction_core.specs.declared.step_list.StepKind.{StepKind}
+use Rattle.auction_core.specs.declared.step_list.StepKind.TheVariants.{Verdict, SameSet, Channelless}
+use Rattle.auction_core.specs.State.{CoreState, answered, advance_to_query, has_ended, task_of}
 use Rattle.auction_core.specs.Backed.{after_start}
 use Rattle.auction_core.specs.declared.transcript.Transcript.{Transcript}
 use Rattle.auction_core.specs.declared.transcript.TranscriptStep.{TranscriptStep}
@@ -31,27 +31,27 @@ use Rattle.auction_core.specs.declared.prefix.ResumeErr.TheVariants as resume
 use Rattle.auction_core.specs.declared.step_err.StepErr.{StepErr}
 use Rattle.auction_core.specs.declared.step_err.StepErr.TheVariants as step
 use Rattle.auction_core.specs.LogNumbers.{steps_in}
-use Rattle.auction_core.specs.NotShown.{NotShown, is_bare, is_like_before, not_shown, or_first_line, query_fault, steps_fault, unasked_fault}
-use Rattle.auction_core.specs.Prefix.{go_through, queries_taken}
+use Rattle.auction_core.specs.NotShown.{NotShown, is_channelless, is_same_set, not_shown, or_first_line, query_fault, steps_fault, unasked_fault}
+use Rattle.auction_core.specs.Prefix.{replay_tests, queries_taken}
 
 -- The fault of a transcript step, given the auction's own step, which was settled without a query.
-abbrev pub unasked_told : Step → TranscriptStep → Option ShownWhy
-unasked_told own x =
+abbrev pub unasked_result : Step → TranscriptStep → Option ShownWhy
+unasked_result own x =
     if own.round == x.step.round && own.station == x.step.station
     then option_map NotValid (unasked_fault x own.shown)
     else Some Why.Order
 
 -- Whether the transcript settles a step in the way of this step kind, which needed no query.
-abbrev pub shows_so : Way → ℕ → Shown → Bool
-shows_so Verdict s shown = false
-shows_so LikeBefore s shown = is_like_before shown
-shows_so Bare s shown = is_bare s shown
+abbrev pub is_shown_as_kept : StepKind → ℕ → Shown → Bool
+is_shown_as_kept Verdict s shown = false
+is_shown_as_kept SameSet s shown = is_same_set shown
+is_shown_as_kept Channelless s shown = is_channelless s shown
 
 -- The fault of a transcript step, given the line of the auction's own step, which was settled without a query.
-abbrev pub line_told : StepLine → TranscriptStep → Option ShownWhy
-line_told own x =
+abbrev pub line_result : StepLine → TranscriptStep → Option ShownWhy
+line_result own x =
     if own.round == x.step.round && own.station == x.step.station
-    then option_map NotValid (unless (shows_so own.way own.station x.step.shown && is_empty x.firsts) Kind None)
+    then option_map NotValid (unless (is_shown_as_kept own.step_kind own.station x.step.shown && is_empty x.firsts) Kind None)
     else Some Why.Order
 
 -- Whether the station is the one that the query is about.
@@ -60,21 +60,21 @@ is_about None s = false
 is_about (Some t) s = t == s
 
 -- The fault of a transcript step that is to settle this query.
-abbrev pub task_told : Scenario → BookView → Task → TranscriptStep → Option ShownWhy
-task_told sc book task x =
+abbrev pub task_result : Scenario → BookView → Task → TranscriptStep → Option ShownWhy
+task_result sc book task x =
     if task.round == x.step.round && is_about task.station x.step.station
     then option_map NotValid (query_fault sc book task x.step.shown x.firsts)
     else Some Why.Order
 
 -- The fault of a transcript step that is to settle the current query; out of order if there is none.
-abbrev pub query_told : Scenario → BookView → CoreState → TranscriptStep → Option ShownWhy
-query_told sc book state x = option_map_or (λ task. task_told sc book task x) (task_of sc book state) (Some Why.Order)
+abbrev pub query_result : Scenario → BookView → CoreState → TranscriptStep → Option ShownWhy
+query_result sc book state x = option_map_or (λ task. task_result sc book task x) (task_of sc book state) (Some Why.Order)
 
 -- The fault of the transcript step at this place: it must match a step that was settled without a query, or settle the current
 -- query.
-abbrev pub step_told : Scenario → BookView → CoreState → ℕ → TranscriptStep → Option ShownWhy
-step_told sc book state place x =
-    option_map_or (λ own. unasked_told own x) (slice_get state.steps place) (query_told sc book state x)
+abbrev pub step_result : Scenario → BookView → CoreState → ℕ → TranscriptStep → Option ShownWhy
+step_result sc book state place x =
+    option_map_or (λ own. unasked_result own x) (slice_get state.steps place) (query_result sc book state x)
 
 -- The state after the transcript step at this place.
 abbrev pub step_leaves : Scenario → BookView → CoreState → ℕ → TranscriptStep → CoreState
@@ -101,13 +101,13 @@ numbered_fault false fault = or_first_line fault
 pub record IsAt (sc : Scenario) (book : BookView) (order : Order) (start : Shown) (done : List Step) (xs : List TranscriptStep) (found : Option NotShown) (state : CoreState) : Type 0 where
   pub at : CoreState
   pub left : List ClockTest
-  pub goes : state ≡ go_on sc book left at
+  pub goes : state ≡ advance_to_query sc book left at
   pub turned : at.order ≡ order
   pub steps : at.steps ≡ done
   pub begun : at.start ≡ Some start
   pub counted : at.number ≡ 1 + queries_taken start done
   pub quiet : at.noted ≡ []
-  pub through : (more : List Step) (n : ℕ) (l : List ClockTest) → go_through sc book (clock_tests sc order) (done ++ more) (record (after_start sc order start) { number = n }) ≡ go_through sc book left more (record at { left = l; noted = []; number = n })
+  pub through : (more : List Step) (n : ℕ) (l : List ClockTest) → replay_tests sc book (clock_tests sc order) (done ++ more) (record (after_start sc order start) { number = n }) ≡ replay_tests sc book left more (record at { left = l; noted = []; number = n })
   pub rest : steps_fault sc book (length done + 1) at left xs ≡ found
 
 -- The first error among all steps of a transcript, the start excepted.
@@ -127,10 +127,10 @@ is_empty_shown (Some (Undecided xs)) = false
 
 -- Whether the error is one at the end: a step is missing after this many, because the auction has not ended or has a different
 -- number of steps.
-abbrev pub FinishTells : ResumeErr → CoreState → ℕ → Type 0
-FinishTells (resume.NotShown step why) state steps =
+abbrev pub FinishFault : ResumeErr → CoreState → ℕ → Type 0
+FinishFault (resume.NotShown step why) state steps =
     (step ≡ steps + 1) × (why ≡ Why.Order) × ((has_ended state ≡ false) ⊎ (length state.steps ≡ steps → ⊥))
-FinishTells resume.NoMemory state steps = Unit {0}
+FinishFault resume.NoMemory state steps = Unit {0}
 
 -- Whether the start and every step are proved, and the auction has ended after them.
 pub record IsAllShown (sc : Scenario) (book : BookView) (t : Transcript) (state : CoreState) : Type 0 where

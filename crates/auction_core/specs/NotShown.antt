@@ -1,4 +1,4 @@
--- The first step of a transcript that is not proved, and why. The order of the checks is this project's own: a step's test comes
+-- The first step of a transcript that is not certified, and why. The order of the checks is this project's own: a step's test comes
 -- first, and then the places of its answer in their order.
 use Rattle.std.specs.Prelude.{ℕ, Bool, true, false, not, ◌≡◌, ◌&&◌, ◌+◌, ◌==◌, nat_le, if◌then◌else◌, List, [], ◌∷◌, length, slice_get, Option, Some, None, is_none, unwrap_or}
 use Rattle.std.specs.Option.{option_map_or}
@@ -32,7 +32,7 @@ use Rattle.auction_core.specs.declared.prefix.ShownWhy.TheVariants.{Order as Wro
 use Rattle.auction_core.specs.declared.prefix.ResumeErr.{ResumeErr}
 use Rattle.auction_core.specs.declared.prefix.ResumeErr.TheVariants as resume
 
--- A step of a transcript that is not proved, and why. Step 0 is the start; the first step after it is 1.
+-- A step of a transcript that is not certified, and why. Step 0 is the start; the first step after it is 1.
 pub record NotShown : Type 0 where
   pub step : ℕ
   pub why : ShownWhy
@@ -103,38 +103,38 @@ query_fault sc book task (Outside proof) firsts = one_log_fault book task proof.
 query_fault sc book task (Undecided xs) firsts = receipts_fault book task sc.workers xs firsts
 
 -- Whether the test is settled by its own station s having no channel.
-abbrev pub is_bare : ℕ → Shown → Bool
-is_bare s Empty = false
-is_bare s (Fits delta) = false
-is_bare s Same = false
-is_bare s (NoChannel t) = t == s
-is_bare s (Refuted w how) = false
-is_bare s (Outside proof) = false
-is_bare s (Undecided xs) = false
+abbrev pub is_channelless : ℕ → Shown → Bool
+is_channelless s Empty = false
+is_channelless s (Fits delta) = false
+is_channelless s Same = false
+is_channelless s (NoChannel t) = t == s
+is_channelless s (Refuted w how) = false
+is_channelless s (Outside proof) = false
+is_channelless s (Undecided xs) = false
 
 -- Whether the test is settled by that of the same station one round before.
-abbrev pub is_like_before : Shown → Bool
-is_like_before Empty = false
-is_like_before (Fits delta) = false
-is_like_before Same = true
-is_like_before (NoChannel s) = false
-is_like_before (Refuted w how) = false
-is_like_before (Outside proof) = false
-is_like_before (Undecided xs) = false
+abbrev pub is_same_set : Shown → Bool
+is_same_set Empty = false
+is_same_set (Fits delta) = false
+is_same_set Same = true
+is_same_set (NoChannel s) = false
+is_same_set (Refuted w how) = false
+is_same_set (Outside proof) = false
+is_same_set (Undecided xs) = false
 
 -- Whether the transcript settles the test in the way in which the rule settled it without a query (`own`).
-abbrev pub is_unasked_so : Shown → Shown → Bool
-is_unasked_so Empty shown = false
-is_unasked_so (Fits delta) shown = false
-is_unasked_so Same shown = is_like_before shown
-is_unasked_so (NoChannel s) shown = is_bare s shown
-is_unasked_so (Refuted w how) shown = false
-is_unasked_so (Outside proof) shown = false
-is_unasked_so (Undecided xs) shown = false
+abbrev pub is_shown_unasked : Shown → Shown → Bool
+is_shown_unasked Empty shown = false
+is_shown_unasked (Fits delta) shown = false
+is_shown_unasked Same shown = is_same_set shown
+is_shown_unasked (NoChannel s) shown = is_channelless s shown
+is_shown_unasked (Refuted w how) shown = false
+is_shown_unasked (Outside proof) shown = false
+is_shown_unasked (Undecided xs) shown = false
 
 -- The first error of a step whose test the rule settled without a query (`own`).
 abbrev pub unasked_fault : TranscriptStep → Shown → Option Place
-unasked_fault x own = unless (is_unasked_so own x.step.shown && is_empty x.firsts) Kind None
+unasked_fault x own = unless (is_shown_unasked own x.step.shown && is_empty x.firsts) Kind None
 
 -- The first error of a step in this state: if its test needs no query, it must be settled as the rule settled it; otherwise it must
 -- settle its query.
@@ -150,7 +150,7 @@ abbrev pub next_asked : ClockState → List ClockTest → List ClockTest
 next_asked clock [] = []
 next_asked clock (t ∷ ts) = if is_active clock t.station then t ∷ ts else next_asked clock ts
 
--- The result that this step is not proved, for this reason.
+-- The result that this step is not certified, for this reason.
 abbrev pub not_shown_at : ℕ → ShownWhy → Option NotShown
 not_shown_at step why = Some (record { step = step; why = why })
 
@@ -193,7 +193,7 @@ start_fault sc book (Refuted w how) = Some Kind
 start_fault sc book (Outside proof) = Some Kind
 start_fault sc book (Undecided xs) = Some Kind
 
--- The first step of a transcript that is not proved, and why; `None` if the transcript is sound. The start is step 0.
+-- The first step of a transcript that is not certified, and why; `None` if the transcript is sound. The start is step 0.
 unfoldable pub not_shown : Scenario → BookView → Transcript → Option NotShown
 not_shown sc book t =
     step_fault_or 0 (start_fault sc book t.start) (steps_fault sc book 1 (after_start sc t.order t.start) (clock_tests sc t.order) t.steps)
@@ -210,8 +210,8 @@ abbrev pub order_kept : Prefix → Order
 order_kept p = unwrap_or p.order ByVolume
 
 -- The beginning of a transcript as a transcript, given how its start was settled.
-abbrev pub kept_as : Prefix → Shown → Transcript
-kept_as p start = record { order = order_kept p; start = start; steps = p.steps }
+abbrev pub as_transcript : Prefix → Shown → Transcript
+as_transcript p start = record { order = order_kept p; start = start; steps = p.steps }
 
 -- The fault of a beginning without a start: there may be neither steps nor an end.
 abbrev pub unstarted_fault : Prefix → Option NotShown
@@ -221,9 +221,9 @@ unstarted_fault p = if is_empty p.steps && not p.ended then None else not_shown_
 abbrev pub started_fault : Scenario → BookView → Bool → Transcript → Option NotShown
 started_fault sc book ended t = if ended then not_shown sc book t else within_steps (length t.steps) (not_shown sc book t)
 
--- The first step of a transcript's beginning that is not proved, and why; `None` if an auction can continue from it.
+-- The first step of a transcript's beginning that is not certified, and why; `None` if an auction can continue from it.
 unfoldable pub not_kept : Scenario → BookView → Prefix → Option NotShown
-not_kept sc book p = option_map_or (λ start. started_fault sc book p.ended (kept_as p start)) p.start (unstarted_fault p)
+not_kept sc book p = option_map_or (λ start. started_fault sc book p.ended (as_transcript p start)) p.start (unstarted_fault p)
 
 -- Whether the error is what this definition finds, unless memory ran out.
 abbrev pub Explains : ResumeErr → Option NotShown → Type 0

@@ -7,7 +7,7 @@ use Rattle.pack_defs.specs.ClockRule.{ClockTest, clock_tests, asked_tests, is_ac
 use Rattle.auction_core.specs.declared.record.Shown.{Shown}
 use Rattle.auction_core.specs.declared.record.Shown.TheVariants.{Empty, Fits, Same, NoChannel, Refuted, Outside, Undecided}
 use Rattle.auction_core.specs.declared.record.Step.{Step}
-use Rattle.auction_core.specs.State.{CoreState, test_of, shows_room, start_fits, settled, go_on, before_start, opening}
+use Rattle.auction_core.specs.State.{CoreState, test_of, shows_room, start_fits, settled, advance_to_query, before_start, opening}
 use Rattle.auction_core.specs.Backed.{undecided_of, AreShown, after_start, shown_start}
 use Rattle.auction_core.specs.Rule.{IsStartKept}
 
@@ -36,13 +36,13 @@ queries_taken start steps = (if took_query start then 1 else 0) + count_by (λ x
 
 -- The state after these tests with these steps: a test is skipped if its station is not active, and otherwise settled as the next
 -- step says. After the last step the state goes on to the next query.
-abbrev pub go_through : Scenario → BookView → List ClockTest → List Step → CoreState → CoreState
-go_through sc book ts [] state = go_on sc book ts state
-go_through sc book [] (x ∷ xs) state = record state { left = [] }
-go_through sc book (t ∷ ts) (x ∷ xs) state =
+abbrev pub replay_tests : Scenario → BookView → List ClockTest → List Step → CoreState → CoreState
+replay_tests sc book ts [] state = advance_to_query sc book ts state
+replay_tests sc book [] (x ∷ xs) state = record state { left = [] }
+replay_tests sc book (t ∷ ts) (x ∷ xs) state =
     if is_active state.clock t.station
-    then go_through sc book ts xs (settled sc state t x.shown)
-    else go_through sc book ts (x ∷ xs) state
+    then replay_tests sc book ts xs (settled sc state t x.shown)
+    else replay_tests sc book ts (x ∷ xs) state
 
 -- The state with which an auction continues after this start and these steps; its query has the next number. Without a start it is
 -- the opening state.
@@ -50,5 +50,5 @@ unfoldable pub resumed : Scenario → BookView → Order → Option Shown → Li
 resumed sc book order None steps = opening sc book order
 resumed sc book order (Some start) steps =
     if shows_room start
-    then go_through sc book (clock_tests sc order) steps (record (after_start sc order start) { number = 1 + queries_taken start steps })
+    then replay_tests sc book (clock_tests sc order) steps (record (after_start sc order start) { number = 1 + queries_taken start steps })
     else record (before_start sc order) { start = Some start; number = 1 + queries_taken start steps }

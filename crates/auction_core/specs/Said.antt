@@ -11,34 +11,34 @@ use Rattle.auction_core.specs.declared.posting.Reply.TheVariants.{Rejected}
 use Rattle.auction_core.specs.declared.posting.Said.{Said}
 use Rattle.auction_core.specs.declared.posting.Said.TheVariants.{Good, Bad}
 use Rattle.auction_core.specs.State.{CoreState}
-use Rattle.auction_core.specs.Take.{PostingView, accepted, fault_of, turned_away}
+use Rattle.auction_core.specs.Take.{PostingView, accepted, fault_of, unjudged_reply}
 use Rattle.auction_core.specs.Rule.{Answers}
 
 -- The effect of a worker's answer that was checked: the reply and the state after it.
-abbrev pub told_of_judged : Scenario → BookView → CoreState → ℕ → Said → Reply × CoreState
-told_of_judged sc book state w (Good certified) = accepted sc book state w certified.answer
-told_of_judged sc book state w (Bad place) = (Rejected place, state)
+abbrev pub reply_to_judged : Scenario → BookView → CoreState → ℕ → Said → Reply × CoreState
+reply_to_judged sc book state w (Good certified) = accepted sc book state w certified.answer
+reply_to_judged sc book state w (Bad place) = (Rejected place, state)
 
 -- The reply to a posting whose answer was checked, and the state after it.
 unfoldable pub taken : Scenario → BookView → CoreState → Posting → Reply × CoreState
 taken sc book state posting =
-    option_map_or (λ reply. (reply, state)) (turned_away sc state posting.worker posting.number)
-    (told_of_judged sc book state posting.worker posting.said)
+    option_map_or (λ reply. (reply, state)) (unjudged_reply sc state posting.worker posting.number)
+    (reply_to_judged sc book state posting.worker posting.said)
 
 -- The posting with this answer, as if it had not been checked.
 abbrev pub with_answer : Posting → Answer → PostingView
 with_answer posting answer = record { worker = posting.worker; number = posting.number; answer = answer }
 
 -- Whether the verdict is true of this answer.
-abbrev pub IsSaidOf : Scenario → BookView → CoreState → Posting → Answer → Said → Type 0
-IsSaidOf sc book state posting answer (Good certified) =
+abbrev pub IsJudgementOf : Scenario → BookView → CoreState → Posting → Answer → Said → Type 0
+IsJudgementOf sc book state posting answer (Good certified) =
     (certified.answer ≡ answer) × Answers sc book state posting.worker answer
-IsSaidOf sc book state posting answer (Bad place) = fault_of sc book state (with_answer posting answer) ≡ Some place
+IsJudgementOf sc book state posting answer (Bad place) = fault_of sc book state (with_answer posting answer) ≡ Some place
 
 -- Whether the posting is turned away, or its verdict is true of this answer.
-abbrev pub StandsFor : Scenario → BookView → CoreState → Posting → Answer → Type 0
-StandsFor sc book state posting answer =
-    turned_away sc state posting.worker posting.number ≡ None → IsSaidOf sc book state posting answer posting.said
+abbrev pub JudgesAnswer : Scenario → BookView → CoreState → Posting → Answer → Type 0
+JudgesAnswer sc book state posting answer =
+    unjudged_reply sc state posting.worker posting.number ≡ None → IsJudgementOf sc book state posting answer posting.said
 
 -- Whether an accepted answer is valid for the current query; nothing is required of a rejected one.
 abbrev pub AnswersIfGood : Scenario → BookView → CoreState → ℕ → Said → Type 0
@@ -48,4 +48,4 @@ AnswersIfGood sc book state w (Bad place) = ⊤
 -- Whether the posting is turned away, or its answer, if accepted, is valid for the current query and the worker.
 abbrev pub MayBeTaken : Scenario → BookView → CoreState → Posting → Type 0
 MayBeTaken sc book state posting =
-    turned_away sc state posting.worker posting.number ≡ None → AnswersIfGood sc book state posting.worker posting.said
+    unjudged_reply sc state posting.worker posting.number ≡ None → AnswersIfGood sc book state posting.worker posting.said

@@ -5,7 +5,7 @@ use Rattle.pack_defs.specs.declared.order.Order.{Order}
 use Rattle.pack_defs.specs.declared.scenario.Scenario.{Scenario}
 use Rattle.pack_defs.specs.Scenario.{IsWithinLimits, facilities}
 use Rattle.pack_defs.specs.Prices.{prices}
-use Rattle.pack_defs.specs.ClockRule.{turns}
+use Rattle.pack_defs.specs.ClockRule.{round_order}
 
 -- The fixed part of an auction: its scenario, its book and its test order.
 pub record SetupView : Type 0 where
@@ -28,5 +28,5 @@ pub record IsSetupSound (s : SetupView) : Type 0 where
 pub record IsSetup (s : SetupView) (schedule places : List ℕ) : Type 0 where
   pub sound : IsSetupSound s
   pub offers : schedule ≡ prices s.scenario
-  pub turns_are : map (slice_index (facilities s.scenario)) places ≡ turns s.scenario s.order
+  pub round_order_is : map (slice_index (facilities s.scenario)) places ≡ round_order s.scenario s.order
   pub within : All (λ i. i < length s.scenario.stations) places

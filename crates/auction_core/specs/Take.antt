@@ -57,8 +57,8 @@ judged sc book state posting (Some place) = (Rejected place, state)
 
 -- The reply to a posting that is turned away: the auction has ended, the number is another query's, or there is no such worker.
 -- `None` if the answer is to be read.
-abbrev pub turned_away : Scenario → CoreState → ℕ → ℕ → Option Reply
-turned_away sc state w number =
+abbrev pub unjudged_reply : Scenario → CoreState → ℕ → ℕ → Option Reply
+unjudged_reply sc state w number =
     if has_ended state then Some Ended
     else (if not (number == state.number) then Some (WrongQuery state.number)
     else (if nat_le (length sc.workers) w then Some Stranger
@@ -73,7 +73,7 @@ fault_of sc book state posting =
 -- The reply to a posting, and the state after it: the posting is turned away, or its answer takes effect if it is valid.
 unfoldable pub take : Scenario → BookView → CoreState → PostingView → Reply × CoreState
 take sc book state posting =
-    option_map_or (λ reply. (reply, state)) (turned_away sc state posting.worker posting.number)
+    option_map_or (λ reply. (reply, state)) (unjudged_reply sc state posting.worker posting.number)
     (judged sc book state posting (fault_of sc book state posting))
 
 -- The state after these postings, one after another.

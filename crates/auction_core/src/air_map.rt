@@ -1,5 +1,5 @@
-//! The channel map of the stations on air, with one slot for each station of the auction, so that updates happen in place. `course`
-//! owns it; `parts` reads the slots when it builds a query.
+//! The channel map of the stations on air, with one slot for each station of the auction, so that updates happen in place. `clock_run`
+//! owns it; `component_labels` reads the slots when it builds a query.
 
 ghost use Rattle.std.specs.Prelude.{◌≡◌, ◌<◌, ℕ, [], IfOk, IsTrue, List, MatchOption, false, get_or, length, map};
 ghost use Rattle.pack_defs.specs.ChannelMap.{IsAscending, channel_of, overlaid, put};

@@ -1,5 +1,5 @@
 //! An auction between two postings: what each posting of a worker does, whoever posts it and when. This is the interface that
-//! boards and races use; `clockwork` and `taking` do the work.
+//! boards and races use; `query_session` and `taking` do the work.
 
 ghost use Rattle.std.specs.Arc.{arc_value};
 ghost use Rattle.std.specs.Prelude.{◌≡◌, ◌≤◌, ◌+◌, ◌++◌, ◌∷◌, [], IfErr, IfOk, MatchOption, None, OnOk, Some, ⊤, length, option_and_then, option_map, true};
@@ -7,26 +7,26 @@ ghost use Rattle.cert_types.specs.Certificate.{IsTaskOf};
 ghost use Rattle.cert_types.specs.Query.{IsQuery};
 ghost use Rattle.cert_types.specs.declared.answer.Answer.{Answer};
 ghost use Rattle.pack_defs.specs.Scenario.{with_owners};
-ghost use Rattle.auction_core.specs.Auction.{entry_told, let_through};
+ghost use Rattle.auction_core.specs.Auction.{entry_with_reply, accepted_answer};
 ghost use Rattle.auction_core.specs.Backed.{IsBacked, record_of};
 ghost use Rattle.auction_core.specs.LogNumbers.{steps_in};
 ghost use Rattle.auction_core.specs.NotShown.{Explains, not_kept, order_kept};
-ghost use Rattle.auction_core.specs.Postings.{GoesOn};
+ghost use Rattle.auction_core.specs.Postings.{Continues};
 ghost use Rattle.auction_core.specs.Prefix.{IsPrefix, resumed};
 ghost use Rattle.auction_core.specs.Replay.{kept_answer, replay_from};
 ghost use Rattle.auction_core.specs.Rule.{KeepsTheRule};
-ghost use Rattle.auction_core.specs.Said.{MayBeTaken, StandsFor, taken, with_answer};
+ghost use Rattle.auction_core.specs.Said.{MayBeTaken, JudgesAnswer, taken, with_answer};
 ghost use Rattle.auction_core.specs.Setup.{IsOfAuction};
 ghost use Rattle.auction_core.specs.State.{has_ended, opening, task_of};
 ghost use Rattle.auction_core.specs.Take.{is_noted, take};
 
-use crate::clockwork::Clockwork;
-use crate::follow::follow_kept;
-use crate::notes::Notes;
+use crate::check_sequence::check_kept_sequence;
+use crate::pending_receipts::PendingReceipts;
 use crate::posting::{Entry, Posting, Reply, Said};
 use crate::prefix::{Prefix, ResumeErr};
+use crate::query_session::QuerySession;
 use crate::record::Record;
-use crate::taking::tell;
+use crate::taking::reply_to;
 use cert_types::answer::Answer;
 use cert_types::task::Task;
 use pack_defs::book::Book;
@@ -64,9 +64,9 @@ use std::sync::Arc;
 /// ```
 #[derive(Drop)]
 pub struct Auction {
-    opened: Snapshot<Clockwork>,
-    clockwork: Clockwork,
-    notes: Notes,
+    opened: Snapshot<QuerySession>,
+    query_session: QuerySession,
+    pending_receipts: PendingReceipts,
     history: Vec<Entry>,
 }
 
@@ -77,15 +77,15 @@ impl Model for Auction {
     ghost Value = { AuctionView };
 
     ghost view = { λ a. record {
-      scenario = a.clockwork.scenario;
-      book = a.clockwork.book;
+      scenario = a.query_session.scenario;
+      book = a.query_session.book;
       opened = a.opened.value.state;
-      state = state_at a.clockwork a.notes;
+      state = state_at a.query_session a.pending_receipts;
       history = a.history.items;
-      spare = spare_of a.clockwork a.notes (vec_capacity a.history - vec_len a.history);
+      spare = spare_of a.query_session a.pending_receipts (vec_capacity a.history - vec_len a.history);
     } };
 
-    ghost invariant = { λ a. IsBetween a.clockwork a.notes a.opened.value.state a.history.items };
+    ghost invariant = { λ a. IsBetween a.query_session a.pending_receipts a.opened.value.state a.history.items };
 }
 
 impl Auction {
@@ -108,8 +108,8 @@ impl Auction {
         ensures state { IfOk result (λ auction. auction.state ≡ opening sc.now book.now order) }
         ensures history { IfOk result (λ auction. auction.history ≡ []) }
     {
-        let clockwork = Clockwork::open(alloc, sc, book, order)?;
-        Auction::of(alloc, clockwork)
+        let query_session = QuerySession::open(alloc, sc, book, order)?;
+        Auction::of(alloc, query_session)
     }
 
     /// Returns the auction that continues this query session, at its current query or at its end. The history begins empty.
@@ -117,34 +117,38 @@ impl Auction {
     /// # Errors
     ///
     /// Fails only if memory runs out.
-    pub(crate) fn of(alloc: Global, clockwork: Clockwork) -> Result<Auction, NoMemory>
-        ensures scenario { IfOk result (λ auction. auction.scenario ≡ clockwork.scenario) }
-        ensures book { IfOk result (λ auction. auction.book ≡ clockwork.book) }
-        ensures opened { IfOk result (λ auction. auction.opened ≡ clockwork.state) }
-        ensures state { IfOk result (λ auction. auction.state ≡ clockwork.state) }
+    pub(crate) fn of(alloc: Global, query_session: QuerySession) -> Result<Auction, NoMemory>
+        ensures scenario { IfOk result (λ auction. auction.scenario ≡ query_session.scenario) }
+        ensures book { IfOk result (λ auction. auction.book ≡ query_session.book) }
+        ensures opened { IfOk result (λ auction. auction.opened ≡ query_session.state) }
+        ensures state { IfOk result (λ auction. auction.state ≡ query_session.state) }
         ensures history { IfOk result (λ auction. auction.history ≡ []) }
     {
-        let notes = Notes::of_none(alloc, clockwork.workers().len())?;
-        Ok(Auction::unnoted(alloc, clockwork, notes))
+        let pending_receipts = PendingReceipts::none_pending(alloc, query_session.workers().len())?;
+        Ok(Auction::with_none_pending(alloc, query_session, pending_receipts))
     }
 
     // Returns the auction that continues this query session, with these slots for the workers' receipts, all empty.
-    fn unnoted(alloc: Global, clockwork: Clockwork, notes: Notes) -> Auction
-        requires places { notes.workers ≡ length clockwork.scenario.workers }
-        requires none { notes.noted ≡ [] }
-        ensures scenario { result.scenario ≡ clockwork.scenario }
-        ensures book { result.book ≡ clockwork.book }
-        ensures opened { result.opened ≡ clockwork.state }
-        ensures state { result.state ≡ clockwork.state }
+    fn with_none_pending(
+        alloc: Global,
+        query_session: QuerySession,
+        pending_receipts: PendingReceipts,
+    ) -> Auction
+        requires places { pending_receipts.workers ≡ length query_session.scenario.workers }
+        requires none { pending_receipts.noted ≡ [] }
+        ensures scenario { result.scenario ≡ query_session.scenario }
+        ensures book { result.book ≡ query_session.book }
+        ensures opened { result.opened ≡ query_session.state }
+        ensures state { result.state ≡ query_session.state }
         ensures history { result.history ≡ [] }
     {
         // Proof only: no receipt is pending, and the state keeps the clock rule.
-        clockwork.keeps_the_rule();
-        let opened = Snapshot::of(&clockwork);
+        query_session.keeps_the_rule();
+        let opened = Snapshot::of(&query_session);
         Auction {
             opened,
-            clockwork,
-            notes,
+            query_session,
+            pending_receipts,
             history: Vec::new(alloc),
         }
     }
@@ -177,8 +181,8 @@ impl Auction {
     {
         // Proof only: the book is in order, as the laws require.
         book.keeps_order();
-        let clockwork = follow_kept(alloc, book, sc, prefix)?;
-        Ok(Auction::of(alloc, clockwork)?)
+        let query_session = check_kept_sequence(alloc, book, sc, prefix)?;
+        Ok(Auction::of(alloc, query_session)?)
     }
 
     /// Returns the live auction of this scenario: these answers of the owners decide, and the stations' values are ignored. Starts
@@ -209,14 +213,14 @@ impl Auction {
     pub fn book(&self) -> &Book
         ensures { result.now ≡ self.now.book }
     {
-        self.clockwork.book()
+        self.query_session.book()
     }
 
     /// Clones the shared book; no copy is made. Fails if the reference count would overflow.
     pub fn shared_book(&self) -> Result<Arc<Book>, NoMemory>
         ensures { IfOk result (λ book. arc_value book ≡ self.now.book) }
     {
-        self.clockwork.shared_book()
+        self.query_session.shared_book()
     }
 
     /// Returns the workers of the scenario: one to sixteen.
@@ -225,21 +229,21 @@ impl Auction {
         ensures some { 1 ≤ length result.now }
         ensures few { length result.now ≤ 16 }
     {
-        self.clockwork.workers()
+        self.query_session.workers()
     }
 
     /// Returns the number of the current query, from 1; once the auction has ended, one more than the last.
     pub fn number(&self) -> u64
         ensures { result ≡ self.now.state.number }
     {
-        self.clockwork.number()
+        self.query_session.number()
     }
 
     /// Returns whether the auction has ended: no query is left.
     pub fn ended(&self) -> bool
         ensures { result ≡ has_ended self.now.state }
     {
-        self.clockwork.has_ended()
+        self.query_session.has_ended()
     }
 
     /// Returns whether this worker's receipt for the current query is pending; `false` for a worker that the scenario does not
@@ -247,7 +251,7 @@ impl Auction {
     pub fn noted(&self, worker: u32) -> bool
         ensures { result ≡ is_noted self.now.state.noted worker }
     {
-        self.notes.has(worker)
+        self.pending_receipts.has(worker)
     }
 
     /// Returns how many postings there were since the auction was opened.
@@ -264,7 +268,7 @@ impl Auction {
         ensures replays { replay_from self.now.scenario self.now.book self.now.history self.now.opened ≡ Some self.now.state }
         ensures rule { KeepsTheRule self.now.scenario self.now.book self.now.state }
         ensures order { self.now.state.order ≡ self.now.opened.order }
-        ensures goes_on { GoesOn self.now.opened self.now.state }
+        ensures continues { Continues self.now.opened self.now.state }
     {
         let _history = &self.history;
     }
@@ -280,7 +284,7 @@ impl Auction {
         ensures checked { IfOk result (λ task. MatchOption task ⊤ (IsTaskOf self.now.book)) }
         ensures query { IfOk result (λ task. MatchOption task ⊤ (IsQuery self.now.book)) }
     {
-        self.clockwork.task(alloc)
+        self.query_session.task(alloc)
     }
 
     /// Reserves room for all that one posting can add. Success or failure, no room is lost and nothing else changes.
@@ -298,8 +302,8 @@ impl Auction {
         ensures history { self.new.history ≡ self.old.history }
     {
         self.history.reserve(1)?;
-        self.notes.reserve()?;
-        self.clockwork.reserve()
+        self.pending_receipts.reserve()?;
+        self.query_session.reserve()
     }
 
     /// Applies a posting and returns the reply. The posting is turned away, or its answer settles the query, becomes a pending
@@ -315,9 +319,9 @@ impl Auction {
         requires spare { 1 ≤ self.old.spare }
         requires said { MayBeTaken self.old.scenario self.old.book self.old.state posting }
         ensures told { (result, self.new.state) ≡ taken self.old.scenario self.old.book self.old.state posting }
-        ensures seen { (answer : Answer) → StandsFor self.old.scenario self.old.book self.old.state posting answer →
+        ensures seen { (answer : Answer) → JudgesAnswer self.old.scenario self.old.book self.old.state posting answer →
             (result, self.new.state) ≡ take self.old.scenario self.old.book self.old.state (with_answer posting answer) }
-        ensures history { self.new.history ≡ self.old.history ++ entry_told posting result ∷ [] }
+        ensures history { self.new.history ≡ self.old.history ++ entry_with_reply posting result ∷ [] }
         ensures rule { KeepsTheRule self.new.scenario self.new.book self.new.state }
         ensures order { self.new.state.order ≡ self.old.state.order }
         ensures room { self.old.spare ≤ self.new.spare + 1 }
@@ -327,13 +331,13 @@ impl Auction {
     {
         let worker = posting.worker;
         let number = posting.number;
-        let answer = let_through(&posting.said);
-        let reply = tell(&mut self.clockwork, &mut self.notes, posting);
+        let answer = accepted_answer(&posting.said);
+        let reply = reply_to(&mut self.query_session, &mut self.pending_receipts, posting);
         self.history.push_reserved(Entry {
             worker,
             number,
             reply,
-            answer: if_taken(reply, answer),
+            answer: answer_if_taken(reply, answer),
         });
         reply
     }
@@ -349,13 +353,13 @@ impl Auction {
         ensures record_is { IfOk result (λ rec. rec ≡ record_of scenario self.state) }
         ensures backed { IfOk result (IsBacked scenario self.book self.state.order) }
     {
-        self.clockwork.into_record(alloc, scenario)
+        self.query_session.into_record(alloc, scenario)
     }
 }
 
 // Returns the accepted answer, as contracts see it.
-fn let_through(said: &Said) -> Option<Snapshot<Answer>>
-    ensures { option_map (λ s. s.value) result ≡ let_through said.now }
+fn accepted_answer(said: &Said) -> Option<Snapshot<Answer>>
+    ensures { option_map (λ s. s.value) result ≡ accepted_answer said.now }
 {
     match said {
         Said::Good(certified) => Some(Snapshot::of(certified.answer())),
@@ -364,7 +368,7 @@ fn let_through(said: &Said) -> Option<Snapshot<Answer>>
 }
 
 // Returns the answer if the reply says that it took effect.
-fn if_taken(reply: Reply, answer: Option<Snapshot<Answer>>) -> Option<Snapshot<Answer>>
+fn answer_if_taken(reply: Reply, answer: Option<Snapshot<Answer>>) -> Option<Snapshot<Answer>>
     ensures { option_map (λ s. s.value) result ≡ option_and_then (kept_answer reply) (option_map (λ s. s.value) answer) }
 {
     match reply {

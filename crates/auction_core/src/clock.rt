@@ -1,4 +1,4 @@
-//! The clock: the standing of each station while the auction runs, and what the frozen stations are paid. `course` calls
+//! The clock: the standing of each station while the auction runs, and what the frozen stations are paid. `clock_run` calls
 //! `Clock::settle` for each settled test; `start` calls `declines_opening`.
 
 ghost use Rattle.std.specs.Prelude.{◌≡◌, ◌<◌, ◌≤◌, ◌*◌, [], IfOk, None, length, slice_index, slice_index_or, slice_set};
@@ -7,7 +7,7 @@ ghost use Rattle.pack_defs.specs.Prices.{last_round, prices};
 ghost use Rattle.pack_defs.specs.ClockRule.{exits, opening_state};
 ghost use Rattle.pack_defs.specs.declared.limits.TheConstants.{MOST_STATIONS};
 ghost use Rattle.freeze_ledger.specs.Ledger.{price_of, sum_paid, with_price};
-ghost use Rattle.auction_core.specs.Clock.{IsClockOf, answered_clock, declines_offer, most_paid, opening_standing, stands_active, stands_on_air};
+ghost use Rattle.auction_core.specs.Clock.{IsClockOf, answered_clock, declines_offer, most_paid, opening_status, is_status_active, is_status_on_air};
 
 use freeze_ledger::ledger::Ledger;
 use offer_sched::offers::offer;
@@ -18,7 +18,7 @@ use std::marker::Model;
 
 /// The standing of a station.
 #[derive(Clone, Copy, Debug, PartialEq, Eq)]
-pub enum Standing {
+pub enum StationStatus {
     /// The clock still makes offers to it.
     Active,
     /// On air since this round; 0 is the start.
@@ -27,13 +27,13 @@ pub enum Standing {
     Frozen { round: u32 },
 }
 
-impl Standing {
+impl StationStatus {
     /// Returns whether the station is on air.
     pub fn is_on_air(&self) -> bool
-        ensures { result ≡ stands_on_air self.now }
+        ensures { result ≡ is_status_on_air self.now }
     {
         match self {
-            Standing::OnAir { .. } => true,
+            StationStatus::OnAir { .. } => true,
             _ => false,
         }
     }
@@ -43,7 +43,7 @@ impl Standing {
 /// every active station.
 #[derive(Debug, Drop)]
 pub struct Clock {
-    standings: Vec<Standing>,
+    station_statuses: Vec<StationStatus>,
     ledger: Ledger,
 }
 
@@ -52,9 +52,9 @@ impl Model for Clock {
 
     ghost Value = { ClockView };
 
-    ghost view = { λ c. record { standings = c.standings.items; paid = c.ledger.paid } };
+    ghost view = { λ c. record { station_statuses = c.station_statuses.items; paid = c.ledger.paid } };
 
-    ghost invariant = { λ c. HasRoomToPay c.standings.items c.ledger };
+    ghost invariant = { λ c. HasRoomToPay c.station_statuses.items c.ledger };
 }
 
 // Whether the station declines this offer, in cents, in this round. With values: its value is above the offer, or it has none. With
@@ -80,13 +80,13 @@ pub fn declines_opening(sc: &Scenario, station: &Station) -> bool
 }
 
 // The standing of a station once the clock opens.
-fn opening(sc: &Scenario, station: &Station) -> Standing
-    ensures { result ≡ opening_standing sc.now station.now }
+fn opening(sc: &Scenario, station: &Station) -> StationStatus
+    ensures { result ≡ opening_status sc.now station.now }
 {
     if declines_opening(sc, station) {
-        return Standing::OnAir { round: 0 };
+        return StationStatus::OnAir { round: 0 };
     }
-    Standing::Active
+    StationStatus::Active
 }
 
 // Whether the station at this place goes on air if its test of this round fits.
@@ -116,19 +116,22 @@ impl Clock {
         ensures { IfOk result (λ clock. IsClockOf sc.now (opening_state sc.now) clock) }
     {
         let stations = sc.stations.as_slice();
-        let mut standings = Vec::with_capacity(alloc, stations.len())?;
+        let mut station_statuses = Vec::with_capacity(alloc, stations.len())?;
         for station in stations {
-            standings.push(opening(sc, station))?;
+            station_statuses.push(opening(sc, station))?;
         }
-        let ledger = room_to_pay(alloc, stations.len())?;
-        Ok(Clock { standings, ledger })
+        let ledger = ledger_with_room(alloc, stations.len())?;
+        Ok(Clock {
+            station_statuses,
+            ledger,
+        })
     }
 
     /// Returns the standing of each station, in the scenario's order.
-    pub fn standings(&self) -> &[Standing]
-        ensures { result.now ≡ self.now.standings }
+    pub fn station_statuses(&self) -> &[StationStatus]
+        ensures { result.now ≡ self.now.station_statuses }
     {
-        &self.standings
+        &self.station_statuses
     }
 
     /// Returns what a station, by its facility number, is paid, in cents; `None` if it is not frozen. Binary search.
@@ -147,34 +150,34 @@ impl Clock {
 
     /// Returns whether the station at this place is active.
     pub fn is_active(&self, i: usize) -> bool
-        requires { i < length self.now.standings }
-        ensures { result ≡ stands_active (slice_index_or self.now.standings i Standing.Active) }
+        requires { i < length self.now.station_statuses }
+        ensures { result ≡ is_status_active (slice_index_or self.now.station_statuses i StationStatus.Active) }
     {
-        match self.standings[i] {
-            Standing::Active => true,
+        match self.station_statuses[i] {
+            StationStatus::Active => true,
             _ => false,
         }
     }
 
     // Puts the active station at this place on air in this round.
-    fn air(&mut self, i: usize, round: u32)
-        requires place { i < length self.old.standings }
-        requires active { slice_index_or self.old.standings i Standing.Active ≡ Standing.Active }
-        ensures { self.new ≡ record { standings = slice_set self.old.standings i (Standing.OnAir round); paid = self.old.paid } }
+    fn put_on_air(&mut self, i: usize, round: u32)
+        requires place { i < length self.old.station_statuses }
+        requires active { slice_index_or self.old.station_statuses i StationStatus.Active ≡ StationStatus.Active }
+        ensures { self.new ≡ record { station_statuses = slice_set self.old.station_statuses i (StationStatus.OnAir round); paid = self.old.paid } }
     {
-        self.standings[i] = Standing::OnAir { round };
+        self.station_statuses[i] = StationStatus::OnAir { round };
     }
 
     // Freezes the active station at this place, with this facility number, in this round at this price, in cents.
     fn freeze(&mut self, i: usize, station: u32, round: u32, price: u64)
-        requires place { i < length self.old.standings }
-        requires active { slice_index_or self.old.standings i Standing.Active ≡ Standing.Active }
+        requires place { i < length self.old.station_statuses }
+        requires active { slice_index_or self.old.station_statuses i StationStatus.Active ≡ StationStatus.Active }
         requires absent { price_of station self.old.paid ≡ None }
-        requires few { length self.old.standings ≤ MOST_STATIONS }
+        requires few { length self.old.station_statuses ≤ MOST_STATIONS }
         requires price { price ≤ most_paid }
-        ensures { self.new ≡ record { standings = slice_set self.old.standings i (Standing.Frozen round); paid = with_price station price self.old.paid } }
+        ensures { self.new ≡ record { station_statuses = slice_set self.old.station_statuses i (StationStatus.Frozen round); paid = with_price station price self.old.paid } }
     {
-        self.standings[i] = Standing::Frozen { round };
+        self.station_statuses[i] = StationStatus::Frozen { round };
         self.ledger.freeze(station, price);
     }
 
@@ -186,8 +189,8 @@ impl Clock {
         requires limits { IsWithinLimits sc.now }
         requires schedule { schedule.now ≡ prices sc.now }
         requires place { i < length sc.now.stations }
-        requires stations { length self.old.standings ≡ length sc.now.stations }
-        requires active { slice_index_or self.old.standings i Standing.Active ≡ Standing.Active }
+        requires stations { length self.old.station_statuses ≡ length sc.now.stations }
+        requires active { slice_index_or self.old.station_statuses i StationStatus.Active ≡ StationStatus.Active }
         requires unpaid { price_of (slice_index (facilities sc.now) i) self.old.paid ≡ None }
         requires begun { 1 ≤ round }
         requires round { round ≤ last_round sc.now }
@@ -196,7 +199,7 @@ impl Clock {
     {
         if fits {
             if exits(sc, schedule, i, round) {
-                self.air(i, round);
+                self.put_on_air(i, round);
             }
             return;
         }
@@ -207,7 +210,7 @@ impl Clock {
 }
 
 // Returns an empty ledger with room for this many prices.
-fn room_to_pay(alloc: Global, stations: usize) -> Result<Ledger, NoMemory>
+fn ledger_with_room(alloc: Global, stations: usize) -> Result<Ledger, NoMemory>
     requires { stations ≤ MOST_STATIONS }
     ensures paid { IfOk result (λ ledger. ledger.paid ≡ []) }
     ensures room { IfOk result (λ ledger. stations ≤ ledger.spare) }

@@ -8,8 +8,8 @@ ghost use Rattle.auction_core.specs.Checked.{IsStepFault, numbered_fault};
 ghost use Rattle.auction_core.specs.NotShown.{each_fault, receipts_fault};
 ghost use Rattle.auction_core.specs.declared.prefix.ShownWhy.TheVariants.{NotValid};
 
+use crate::certificates::accepted_answer;
 use crate::log_numbers::is_first_of;
-use crate::shown_by::let_through;
 use crate::step_err::{StepErr, not_valid, numbered};
 use cert_types::answer::{Answer, Place, Receipt};
 use cert_types::task::Task;
@@ -33,7 +33,7 @@ fn receipt_step(
     ensures valid { IfOk result (λ x. numbered_fault right (answer_fault book.now task.now worker.now (Answer.Spent receipt)) ≡ None) }
     ensures why { IfErr result (λ e. IsStepFault e (option_map NotValid (numbered_fault right (answer_fault book.now task.now worker.now (Answer.Spent receipt))))) }
 {
-    match let_through(alloc, book, task, worker, Answer::Spent(receipt)) {
+    match accepted_answer(alloc, book, task, worker, Answer::Spent(receipt)) {
         Ok(Answer::Spent(receipt)) => {
             if right {
                 return Ok(receipt);

@@ -1,4 +1,4 @@
-//! The record of an auction that has ended: its tests, and how each was settled. `clockwork` makes one; `commands` prints
+//! The record of an auction that has ended: its tests, and how each was settled. `query_session` makes one; `commands` prints
 //! it and stores its result and transcript.
 
 ghost use Rattle.std.specs.Prelude.{◌≡◌};

@@ -1,15 +1,15 @@
-//! What is fixed while an auction runs: the scenario, the book, the prices and the test order. `clockwork` makes it once and lends
-//! it to `course`. Nothing here changes after `make`.
+//! What is fixed while an auction runs: the scenario, the book, the prices and the test order. `query_session` makes it once and lends
+//! it to `clock_run`. Nothing here changes after `make`.
 
 ghost use Rattle.std.specs.Arc.{arc_value};
 ghost use Rattle.std.specs.Prelude.{◌≡◌, ◌+◌, ◌<◌, ◌≤◌, IfOk, length, slice_index};
-ghost use Rattle.pack_defs.specs.ClockRule.{turns};
+ghost use Rattle.pack_defs.specs.ClockRule.{round_order};
 ghost use Rattle.pack_defs.specs.Prices.{last_round, prices};
 ghost use Rattle.pack_defs.specs.Scenario.{facilities};
 ghost use Rattle.pack_defs.specs.declared.limits.TheConstants.{MOST_ROUNDS, MOST_STATIONS};
 ghost use Rattle.auction_core.specs.Setup.{IsOfAuction, IsSetupSound};
 
-use crate::turns::places;
+use crate::round_order::places;
 use offer_sched::offers::schedule;
 use pack_defs::book::Book;
 use pack_defs::order::Order;
@@ -106,7 +106,7 @@ impl Setup {
     }
 
     /// Returns the number of stations that a round may test: all of the scenario's.
-    pub fn turns(&self) -> usize
+    pub fn round_length(&self) -> usize
         ensures value { result ≡ length self.now.scenario.stations }
         ensures few { result ≤ MOST_STATIONS }
     {
@@ -114,11 +114,11 @@ impl Setup {
     }
 
     /// Returns the place in the scenario of the station that a round tests at this turn, from 0.
-    pub fn place(&self, turn: usize) -> usize
-        requires { turn < length self.now.scenario.stations }
+    pub fn place(&self, place_in_round: usize) -> usize
+        requires { place_in_round < length self.now.scenario.stations }
         ensures within { result < length self.now.scenario.stations }
-        ensures station { slice_index (facilities self.now.scenario) result ≡ slice_index (turns self.now.scenario self.now.order) turn }
+        ensures station { slice_index (facilities self.now.scenario) result ≡ slice_index (round_order self.now.scenario self.now.order) place_in_round }
     {
-        self.places[turn]
+        self.places[place_in_round]
     }
 }

@@ -1,4 +1,4 @@
-//! Finds the place of a station in a scenario's station list. `open_tests`, `result_text` and `transcript_text` call it.
+//! Finds the place of a station in a scenario's station list. `undecided_tests`, `result_text` and `transcript_text` call it.
 
 ghost use Rattle.std.specs.Prelude.{◌≡◌, ◌<◌, IsFalse, MatchOption, length, map, slice_index};
 ghost use Rattle.std.specs.List.Sorted.{IsStrictlyIncreasing};

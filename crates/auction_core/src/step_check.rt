@@ -1,4 +1,4 @@
-//! Checks one step of a transcript against the auction that is carried out again. `follow` calls `check_step` for each step in
+//! Checks one step of a transcript against the auction that is carried out again. `check_sequence` calls `check_step` for each step in
 //! order.
 
 ghost use Rattle.std.specs.Prelude.{◌≡◌, ◌==◌, ◌&&◌, IfErr, IfOk, OnOk, None, option_map};
@@ -6,17 +6,17 @@ ghost use Rattle.auction_core.specs.Setup.{IsOfAuction};
 ghost use Rattle.auction_core.specs.State.{answered};
 ghost use Rattle.cert_types.specs.Query.{IsQuery};
 ghost use Rattle.pack_defs.specs.declared.scenario.Scenario.{Scenario};
-ghost use Rattle.auction_core.specs.Checked.{IsStepFault, is_about, line_told, query_told, shows_so, step_leaves, step_told};
-ghost use Rattle.auction_core.specs.NotShown.{is_bare, is_like_before, query_fault};
+ghost use Rattle.auction_core.specs.Checked.{IsStepFault, is_about, line_result, query_result, is_shown_as_kept, step_leaves, step_result};
+ghost use Rattle.auction_core.specs.NotShown.{is_channelless, is_same_set, query_fault};
 ghost use Rattle.auction_core.specs.declared.prefix.ShownWhy.TheVariants.{NotValid};
 
-use crate::clockwork::Clockwork;
+use crate::certificates::{fit, outside, refuted};
 use crate::prefix::ShownWhy;
+use crate::query_session::QuerySession;
 use crate::receipts::undecided;
 use crate::record::{Shown, Step};
-use crate::shown_by::{fit, outside, refuted};
 use crate::step_err::{StepErr, not_valid, told};
-use crate::step_list::{StepLine, Way};
+use crate::step_list::{StepKind, StepLine};
 use crate::transcript::TranscriptStep;
 use cert_types::answer::Place;
 use cert_types::task::Task;
@@ -25,8 +25,8 @@ use pack_defs::worker::Worker;
 use std::alloc::Global;
 
 // Whether the step says that its own station has no channel.
-fn is_bare(station: u32, shown: &Shown) -> bool
-    ensures { result ≡ is_bare station shown.now }
+fn is_channelless(station: u32, shown: &Shown) -> bool
+    ensures { result ≡ is_channelless station shown.now }
 {
     match shown {
         Shown::NoChannel(other) => *other == station,
@@ -35,31 +35,31 @@ fn is_bare(station: u32, shown: &Shown) -> bool
 }
 
 // Whether the step refers to the test of the same station one round before.
-fn is_like_before(shown: &Shown) -> bool
-    ensures { result ≡ is_like_before shown.now }
+fn is_same_set(shown: &Shown) -> bool
+    ensures { result ≡ is_same_set shown.now }
 {
     matches!(shown, Shown::Same)
 }
 
 // Whether the transcript settles the step in the way of this line, which needed no query.
-fn shows_so(own: StepLine, shown: &Shown) -> bool
-    ensures { result ≡ shows_so own.way own.station shown.now }
+fn is_shown_as_kept(own: StepLine, shown: &Shown) -> bool
+    ensures { result ≡ is_shown_as_kept own.step_kind own.station shown.now }
 {
-    match own.way {
-        Way::Verdict => false,
-        Way::LikeBefore => is_like_before(shown),
-        Way::Bare => is_bare(own.station, shown),
+    match own.step_kind {
+        StepKind::Verdict => false,
+        StepKind::SameSet => is_same_set(shown),
+        StepKind::Channelless => is_channelless(own.station, shown),
     }
 }
 
 // Compares a step with the auction's own step, which was settled without a query. Returns the fault, if any.
 fn unasked_step(own: StepLine, x: &TranscriptStep) -> Option<ShownWhy>
-    ensures { result ≡ line_told own x.now }
+    ensures { result ≡ line_result own x.now }
 {
     if own.round != x.step.round || own.station != x.step.station {
         return Some(ShownWhy::Order);
     }
-    if shows_so(own, &x.step.shown) && x.firsts.as_slice().is_empty() {
+    if is_shown_as_kept(own, &x.step.shown) && x.firsts.as_slice().is_empty() {
         return None;
     }
     Some(ShownWhy::NotValid(Place::Kind))
@@ -121,17 +121,17 @@ fn is_about(task: &Task, step: &Step) -> bool
 /// Settles the current query as the step says. After an error the auction must not be used again.
 pub(crate) fn query_step(
     alloc: Global,
-    clockwork: &mut Clockwork,
+    query_session: &mut QuerySession,
     x: TranscriptStep,
 ) -> Result<(), StepErr>
-    requires { IsOfAuction clockwork.old.scenario clockwork.old.book }
-    ensures told { OnOk result (query_told clockwork.old.scenario clockwork.old.book clockwork.old.state x ≡ None) }
-    ensures state { OnOk result (clockwork.new.state ≡ answered clockwork.old.scenario clockwork.old.book clockwork.old.state x.step.shown) }
-    ensures why { IfErr result (λ e. IsStepFault e (query_told clockwork.old.scenario clockwork.old.book clockwork.old.state x)) }
-    ensures scenario { OnOk result (clockwork.new.scenario ≡ clockwork.old.scenario) }
-    ensures book { OnOk result (clockwork.new.book ≡ clockwork.old.book) }
+    requires { IsOfAuction query_session.old.scenario query_session.old.book }
+    ensures told { OnOk result (query_result query_session.old.scenario query_session.old.book query_session.old.state x ≡ None) }
+    ensures state { OnOk result (query_session.new.state ≡ answered query_session.old.scenario query_session.old.book query_session.old.state x.step.shown) }
+    ensures why { IfErr result (λ e. IsStepFault e (query_result query_session.old.scenario query_session.old.book query_session.old.state x)) }
+    ensures scenario { OnOk result (query_session.new.scenario ≡ query_session.old.scenario) }
+    ensures book { OnOk result (query_session.new.book ≡ query_session.old.book) }
 {
-    let Some(task) = clockwork.task(alloc)? else {
+    let Some(task) = query_session.task(alloc)? else {
         return Err(StepErr::Fault(ShownWhy::Order));
     };
     if !is_about(&task, &x.step) {
@@ -140,16 +140,16 @@ pub(crate) fn query_step(
     let TranscriptStep { step, firsts } = x;
     let settled = settling(
         alloc,
-        clockwork.book(),
+        query_session.book(),
         &task,
-        clockwork.workers(),
+        query_session.workers(),
         step.shown,
         firsts.as_slice(),
     );
     match settled {
         Ok(shown) => {
-            clockwork.reserve()?;
-            clockwork.settle(shown);
+            query_session.reserve()?;
+            query_session.settle(shown);
             Ok(())
         }
         Err(e) => Err(e),
@@ -160,19 +160,19 @@ pub(crate) fn query_step(
 /// settles the current query. After an error the auction must not be used again.
 pub(crate) fn check_step(
     alloc: Global,
-    clockwork: &mut Clockwork,
+    query_session: &mut QuerySession,
     place: usize,
     x: TranscriptStep,
 ) -> Result<(), StepErr>
-    requires { IsOfAuction clockwork.old.scenario clockwork.old.book }
-    ensures told { OnOk result (step_told clockwork.old.scenario clockwork.old.book clockwork.old.state place x ≡ None) }
-    ensures state { OnOk result (clockwork.new.state ≡ step_leaves clockwork.old.scenario clockwork.old.book clockwork.old.state place x) }
-    ensures why { IfErr result (λ e. IsStepFault e (step_told clockwork.old.scenario clockwork.old.book clockwork.old.state place x)) }
-    ensures scenario { OnOk result (clockwork.new.scenario ≡ clockwork.old.scenario) }
-    ensures book { OnOk result (clockwork.new.book ≡ clockwork.old.book) }
+    requires { IsOfAuction query_session.old.scenario query_session.old.book }
+    ensures told { OnOk result (step_result query_session.old.scenario query_session.old.book query_session.old.state place x ≡ None) }
+    ensures state { OnOk result (query_session.new.state ≡ step_leaves query_session.old.scenario query_session.old.book query_session.old.state place x) }
+    ensures why { IfErr result (λ e. IsStepFault e (step_result query_session.old.scenario query_session.old.book query_session.old.state place x)) }
+    ensures scenario { OnOk result (query_session.new.scenario ≡ query_session.old.scenario) }
+    ensures book { OnOk result (query_session.new.book ≡ query_session.old.book) }
 {
-    if let Some(own) = clockwork.steps().line(place) {
+    if let Some(own) = query_session.steps().line(place) {
         return told(unasked_step(own, &x));
     }
-    query_step(alloc, clockwork, x)
+    query_step(alloc, query_session, x)
 }

@@ -1,4 +1,4 @@
-//! Why a step of a transcript was rejected. Internal to the check: `follow` turns these into `ResumeErr`.
+//! Why a step of a transcript was rejected. Internal to the check: `check_sequence` turns these into `ResumeErr`.
 
 ghost use Rattle.std.specs.Prelude.{◌≡◌, IfErr, None, OnOk, Option, Some, option_map};
 ghost use Rattle.cert_types.specs.declared.answer.Place.{Place};

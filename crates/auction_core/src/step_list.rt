@@ -1,10 +1,10 @@
-//! The steps of an auction, kept so that a step without a query takes a few bytes. `past` owns the list; `step_check` reads its
+//! The steps of an auction, kept so that a step without a query takes a few bytes. `test_history` owns the list; `step_check` reads its
 //! lines.
 
 ghost use Rattle.std.specs.Prelude.{◌≡◌, ◌≤◌, ◌+◌, ◌++◌, ◌∷◌, [], IfOk, MatchOption, OnOk, length, option_map, slice_get, true, unwrap_or, ⊤};
 ghost use Rattle.std.specs.Vec.Iter.{into_iter_items};
 ghost use Rattle.auction_core.specs.State.{fit_of};
-ghost use Rattle.auction_core.specs.StepList.{fit_at, step_line_of, names_only, shown_by, takes_verdict, told_behind, told_with, way_of};
+ghost use Rattle.auction_core.specs.StepList.{fit_at, step_line_of, names_only, shown_of_line, has_verdict, verdicts_after, verdicts_with, step_kind_of};
 
 use crate::record::{Shown, Step};
 use pack_defs::channel_map::ChannelMap;
@@ -15,13 +15,13 @@ use std::vec::IntoIter;
 
 /// How a step was settled.
 #[derive(Clone, Copy, Debug, PartialEq, Eq)]
-pub enum Way {
+pub enum StepKind {
     /// By a certificate of its own, which settled its query.
     Verdict,
     /// By the test of its station one round before.
-    LikeBefore,
+    SameSet,
     /// By its station having no channel.
-    Bare,
+    Channelless,
 }
 
 /// A step without its certificate.
@@ -31,7 +31,7 @@ pub struct StepLine {
     pub round: u32,
     /// The station, by its facility number.
     pub station: u32,
-    pub way: Way,
+    pub step_kind: StepKind,
 }
 
 /// The steps of an auction, in order. A step without a query takes twelve bytes.
@@ -84,7 +84,7 @@ impl StepList {
     }
 
     /// Returns the step at this place, from 0, without its certificate: round, station and step kind. Returns `None` behind the
-    /// last step. A `Way::Bare` step is always settled by its own station.
+    /// last step. A `StepKind::Channelless` step is always settled by its own station.
     pub fn line(&self, place: usize) -> Option<StepLine>
         ensures line { result ≡ option_map step_line_of (slice_get self.now.steps place) }
         ensures names { MatchOption (slice_get self.now.steps place) ⊤ (λ x. names_only x.station x.shown ≡ true) }
@@ -130,9 +130,9 @@ impl StepList {
     pub fn push(&mut self, step: Step)
         requires names { names_only step.station step.shown ≡ true }
         requires room { 1 ≤ self.old.room }
-        requires verdict { takes_verdict (way_of step.shown) ≡ true → 1 ≤ self.old.verdicts }
+        requires verdict { has_verdict (step_kind_of step.shown) ≡ true → 1 ≤ self.old.verdicts }
         ensures steps { self.new.steps ≡ self.old.steps ++ step ∷ [] }
-        ensures told { self.new.told ≡ told_with self.old.told step.shown }
+        ensures told { self.new.told ≡ verdicts_with self.old.told step.shown }
         ensures room { self.old.room ≤ self.new.room + 1 }
     {
         let Step {
@@ -140,13 +140,13 @@ impl StepList {
             station,
             shown,
         } = step;
-        let way = way_of(&shown);
+        let step_kind = step_kind_of(&shown);
         self.lines.push_reserved(StepLine {
             round,
             station,
-            way,
+            step_kind,
         });
-        if !takes_verdict(way) {
+        if !has_verdict(step_kind) {
             return;
         }
         self.told.push_reserved(shown);
@@ -167,7 +167,7 @@ impl StepList {
             steps.push(Step {
                 round: line.round,
                 station: line.station,
-                shown: shown_by(line, &mut told),
+                shown: shown_of_line(line, &mut told),
             })?;
         }
         Ok(Items::from_vec(steps))
@@ -175,25 +175,25 @@ impl StepList {
 }
 
 // Returns the step kind of a step settled this way.
-fn way_of(shown: &Shown) -> Way
-    ensures { result ≡ way_of shown.now }
+fn step_kind_of(shown: &Shown) -> StepKind
+    ensures { result ≡ step_kind_of shown.now }
 {
     match shown {
-        Shown::Empty | Shown::Fits(_) => Way::Verdict,
-        Shown::Same => Way::LikeBefore,
-        Shown::NoChannel(_) => Way::Bare,
-        Shown::Refuted { .. } | Shown::Outside(_) => Way::Verdict,
-        Shown::Undecided(_) => Way::Verdict,
+        Shown::Empty | Shown::Fits(_) => StepKind::Verdict,
+        Shown::Same => StepKind::SameSet,
+        Shown::NoChannel(_) => StepKind::Channelless,
+        Shown::Refuted { .. } | Shown::Outside(_) => StepKind::Verdict,
+        Shown::Undecided(_) => StepKind::Verdict,
     }
 }
 
 // Whether a step of this kind has a verdict of its own.
-fn takes_verdict(way: Way) -> bool
-    ensures { result ≡ takes_verdict way }
+fn has_verdict(step_kind: StepKind) -> bool
+    ensures { result ≡ has_verdict step_kind }
 {
-    match way {
-        Way::Verdict => true,
-        Way::LikeBefore | Way::Bare => false,
+    match step_kind {
+        StepKind::Verdict => true,
+        StepKind::SameSet | StepKind::Channelless => false,
     }
 }
 
@@ -208,13 +208,13 @@ fn fit_of(shown: &Shown) -> Option<&ChannelMap>
 }
 
 // Returns how the step of this line was settled. Takes its verdict, if it has one, from the front of `told`.
-fn shown_by(line: &StepLine, told: &mut IntoIter<Shown>) -> Shown
-    ensures shown { result ≡ shown_by line.now.way line.now.station (into_iter_items told.old) }
-    ensures told { into_iter_items told.new ≡ told_behind line.now.way (into_iter_items told.old) }
+fn shown_of_line(line: &StepLine, told: &mut IntoIter<Shown>) -> Shown
+    ensures shown { result ≡ shown_of_line line.now.step_kind line.now.station (into_iter_items told.old) }
+    ensures told { into_iter_items told.new ≡ verdicts_after line.now.step_kind (into_iter_items told.old) }
 {
-    match line.way {
-        Way::Verdict => told.next().unwrap_or(Shown::Empty),
-        Way::LikeBefore => Shown::Same,
-        Way::Bare => Shown::NoChannel(line.station),
+    match line.step_kind {
+        StepKind::Verdict => told.next().unwrap_or(Shown::Empty),
+        StepKind::SameSet => Shown::Same,
+        StepKind::Channelless => Shown::NoChannel(line.station),
     }
 }

@@ -1,4 +1,4 @@
-//! A transcript as a value. The parser makes one from the text; `follow` checks it.
+//! A transcript as a value. The parser makes one from the text; `check_sequence` checks it.
 
 use crate::record::{Shown, Step};
 use pack_defs::items::Items;

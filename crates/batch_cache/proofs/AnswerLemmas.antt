@@ -9,9 +9,9 @@ use Rattle.cert_types.specs.declared.task.Task.{Task}
 use Rattle.cert_types.specs.Valid.{IsValid}
 use Rattle.batch_cache.specs.declared.key.Key.{Key}
 use Rattle.batch_cache.specs.declared.search.FoundAnswer.{FoundAnswer}
-use Rattle.batch_cache.specs.Kept.{CacheView, first_kept, same_key, to_front}
-use Rattle.batch_cache.specs.Answering.{gives_fit, gives_refutation, moved_by}
-use Rattle.batch_cache.specs.Looks.{fit_found, refutation_found}
+use Rattle.batch_cache.specs.Cache.{CacheView, first_kept, same_key, to_front}
+use Rattle.batch_cache.specs.Answering.{gives_fit, gives_refutation, moved_to_front}
+use Rattle.batch_cache.specs.KeptRefutation.{fit_found, refutation_found}
 use Rattle.batch_cache.proofs.EntryLemmas.{promoted-first}
 use Rattle.batch_cache.proofs.NoneLaws.{fit-valid, refutation-valid}
 use Rattle.pack_defs.proofs.Words.{mapped-none}
@@ -56,18 +56,18 @@ module _ (top : ℕ) (book : BookView) (task : Task) (worker : Worker) where
 -- The entry that was found by these tests is the first from then on.
 module _ (p : Key × List (ℕ × ℕ) → Bool) (q : Key × Refutation → Bool) (self : CacheView) (maps : LruCache Key (List (ℕ × ℕ))) (refutations : LruCache Key Refutation) (view : view_of maps refutations ≡ self) where
   pub map-moved : (made : Key × List (ℕ × ℕ) → FoundAnswer) → ((e : Key × List (ℕ × ℕ)) → (made e).key ≡ e.0) → (new : LruCache Key (List (ℕ × ℕ))) (found : FoundAnswer) → IsOrdered same_key maps → option_map made (find p maps.entries) ≡ Some found → new ≡ lru_cache (promoted (same_key found.key) maps.entries) maps.cap →
-      view_of new refutations ≡ moved_by self (find p self.maps) (find q self.refutations)
+      view_of new refutations ≡ moved_to_front self (find p self.maps) (find q self.refutations)
   map-moved made its new found ordered h moved =
       let (e, here, is) = mapped-some made (find p maps.entries) found h in
       let front : new ≡ lru_cache (to_front e maps.entries) maps.cap =
       moved ∙ ap (λ (es : List (Key × List (ℕ × ℕ))). lru_cache es maps.cap)
       (ap (λ (k : Key). promoted (same_key k) maps.entries) (ap (λ (f : FoundAnswer). f.key) is ∙ its e) ∙ promoted-first p maps.entries e ordered.0 here) in
       ap (λ (m : LruCache Key (List (ℕ × ℕ))). view_of m refutations) front
-      ∙ (sym (ap (λ (o : Option (Key × List (ℕ × ℕ))). moved_by (view_of maps refutations) o (find q refutations.entries)) here)
-      ∙ ap (λ (v : CacheView). moved_by v (find p v.maps) (find q v.refutations)) view)
+      ∙ (sym (ap (λ (o : Option (Key × List (ℕ × ℕ))). moved_to_front (view_of maps refutations) o (find q refutations.entries)) here)
+      ∙ ap (λ (v : CacheView). moved_to_front v (find p v.maps) (find q v.refutations)) view)
 
   pub refutation-moved : (made : Key × List (ℕ × ℕ) → FoundAnswer) (new : LruCache Key Refutation) (found : FoundAnswer) → IsOrdered same_key refutations → option_map made (find p maps.entries) ≡ None → option_map refutation_found (find q refutations.entries) ≡ Some found → new ≡ lru_cache (promoted (same_key found.key) refutations.entries) refutations.cap →
-      view_of maps new ≡ moved_by self (find p self.maps) (find q self.refutations)
+      view_of maps new ≡ moved_to_front self (find p self.maps) (find q self.refutations)
   refutation-moved made new found ordered none h moved =
       let no_map = mapped-none made (find p maps.entries) none in
       let (e, here, is) = mapped-some refutation_found (find q refutations.entries) found h in
@@ -75,5 +75,5 @@ module _ (p : Key × List (ℕ × ℕ) → Bool) (q : Key × Refutation → Bool
       moved ∙ ap (λ (es : List (Key × Refutation)). lru_cache es refutations.cap)
       (ap (λ (f : FoundAnswer). promoted (same_key f.key) refutations.entries) is ∙ promoted-first q refutations.entries e ordered.0 here) in
       ap (λ (m : LruCache Key Refutation). view_of maps m) front
-      ∙ (sym (λ i. moved_by (view_of maps refutations) (no_map i) (here i))
-      ∙ ap (λ (v : CacheView). moved_by v (find p v.maps) (find q v.refutations)) view)
+      ∙ (sym (λ i. moved_to_front (view_of maps refutations) (no_map i) (here i))
+      ∙ ap (λ (v : CacheView). moved_to_front v (find p v.maps) (find q v.refutations)) view)

@@ -9,7 +9,7 @@ use Rattle.std.proofs.lemmas.Map.Keys.{IsDistinct-head, IsDistinct-tail}
 use Rattle.lru.specs.LruCache.{LruCache, lru_cache, IsValid, promoted, put_entries}
 use Rattle.pack_defs.specs.Lists.{same_list}
 use Rattle.batch_cache.specs.declared.key.Key.{Key}
-use Rattle.batch_cache.specs.Kept.{same_key, without_key, to_front, first_kept}
+use Rattle.batch_cache.specs.Cache.{same_key, without_key, to_front, first_kept}
 use Rattle.pack_defs.proofs.Words.{same_list-itself}
 
 -- ---- keys

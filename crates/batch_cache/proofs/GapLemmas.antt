@@ -6,7 +6,7 @@ use Rattle.std.proofs.lemmas.Bool.{and_parts, not-true}
 use Rattle.std.proofs.Math.Bool.{and-false}
 use Rattle.pack_defs.specs.Lists.{is_ascending, is_in}
 use Rattle.pack_defs.proofs.Words.{ascending-rest}
-use Rattle.batch_cache.specs.Gaps.{last_below, goes_on_above, ends_below, has_gap, lacks_at}
+use Rattle.batch_cache.specs.Numbers.{last_below, continues_above, ends_below, has_gap, lacks_at}
 use Rattle.batch_cache.proofs.WalkLemmas.{below-first, not-same}
 
 -- The first number is below one that a later number is below.
@@ -20,7 +20,7 @@ first-below x (y ∷ ys) (suc p) n up h =
 missing-behind : (x : ℕ) (xs : List ℕ) (n : ℕ) → x < n → is_in xs n ≡ false → is_in (x ∷ xs) n ≡ false
 missing-behind x xs n less none = ap (λ (b : Bool). b || is_in xs n) (not-same x n less) ∙ none
 
-missing : (xs : List ℕ) (p n : ℕ) → is_ascending xs ≡ true → goes_on_above xs p n ≡ true → ends_below xs p n ≡ true → is_in xs n ≡ false
+missing : (xs : List ℕ) (p n : ℕ) → is_ascending xs ≡ true → continues_above xs p n ≡ true → ends_below xs p n ≡ true → is_in xs n ≡ false
 missing [] p n up above below = refl
 missing (x ∷ xs) zero n up above below = below-first x xs n up (ltb-true n x above)
 missing (x ∷ xs) (suc zero) n up above below =
@@ -30,7 +30,7 @@ missing (x ∷ xs) (suc (suc p)) n up above below =
 
 pub gap-tells : (xs : List ℕ) (p n : ℕ) → is_ascending xs ≡ true → has_gap xs p n ≡ true → is_in xs n ≡ false
 gap-tells xs p n up gap =
-    let parts = and_parts (goes_on_above xs p n) (ends_below xs p n) gap in
+    let parts = and_parts (continues_above xs p n) (ends_below xs p n) gap in
     missing xs p n up parts.0 parts.1
 
 -- A list that lacks one of some numbers does not have them all.

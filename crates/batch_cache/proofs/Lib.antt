@@ -3,7 +3,7 @@ pub mod BitLemmas
 pub mod Crosses
 pub mod EntryLemmas
 pub mod GapLemmas
-pub mod LookLemmas
+pub mod KeptRefutationLemmas
 pub mod NoneLaws
 pub mod PlaceLemmas
 pub mod SuggestLaws

@@ -13,9 +13,9 @@ use Rattle.cert_types.specs.declared.answer.Refutation.{Refutation}
 use Rattle.cert_types.specs.declared.task.Task.{Task}
 use Rattle.cert_types.specs.Valid.{IsValid, answer_fault}
 use Rattle.batch_cache.specs.declared.key.Key.{Key}
-use Rattle.batch_cache.specs.Kept.{CacheView}
-use Rattle.batch_cache.specs.Answering.{found_answer, fitting_map, gives_fit, gives_refutation, is_valid, cached_answer, part_on, valid_refutation}
-use Rattle.batch_cache.specs.NoneKept.{IsNoneKept}
+use Rattle.batch_cache.specs.Cache.{CacheView}
+use Rattle.batch_cache.specs.Answering.{found_answer, fitting_map, gives_fit, gives_refutation, is_valid, cached_answer, restrict_to, valid_refutation}
+use Rattle.batch_cache.specs.Laws.{IsNoneKept}
 
 module _ {A : Type 0} (p : A → Bool) where
   pub found-passes : (es : List A) (e : A) → find p es ≡ Some e → p e ≡ true
@@ -61,19 +61,19 @@ module _ (top : ℕ) (book : BookView) (task : Task) (worker : Worker) where
       let both = neither task (fitting_map view top book task worker) (valid_refutation view top book task worker) h in
       record {
         maps = λ e there same held valid. none-passes (gives_fit top book task worker) view.maps e both.0 there
-            (and_from ((e.0.top == top) && list_all (is_in e.0.set) task.set) (is_valid book task worker (Fit (part_on task.set e.1)))
+            (and_from ((e.0.top == top) && list_all (is_in e.0.set) task.set) (is_valid book task worker (Fit (restrict_to task.set e.1)))
             (and_from (e.0.top == top) (list_all (is_in e.0.set) task.set) (eq-eqb e.0.top top same) held)
-            (valid-passes (answer_fault book task worker (Fit (part_on task.set e.1))) valid));
+            (valid-passes (answer_fault book task worker (Fit (restrict_to task.set e.1))) valid));
         refutations = λ e there same valid. none-passes (gives_refutation top book task worker) view.refutations e both.1 there
             (and_from (e.0.top == top) (is_valid book task worker (Refuted e.1)) (eq-eqb e.0.top top same)
             (valid-passes (answer_fault book task worker (Refuted e.1)) valid));
       }
 
-  fit-parts : (e : Key × List (ℕ × ℕ)) → gives_fit top book task worker e ≡ true → (e.0.top ≡ top) × (list_all (is_in e.0.set) task.set ≡ true) × IsValid book task worker (Fit (part_on task.set e.1))
+  fit-parts : (e : Key × List (ℕ × ℕ)) → gives_fit top book task worker e ≡ true → (e.0.top ≡ top) × (list_all (is_in e.0.set) task.set ≡ true) × IsValid book task worker (Fit (restrict_to task.set e.1))
   fit-parts e h =
-      let parts = and_parts ((e.0.top == top) && list_all (is_in e.0.set) task.set) (is_valid book task worker (Fit (part_on task.set e.1))) h in
+      let parts = and_parts ((e.0.top == top) && list_all (is_in e.0.set) task.set) (is_valid book task worker (Fit (restrict_to task.set e.1))) h in
       let key = and_parts (e.0.top == top) (list_all (is_in e.0.set) task.set) parts.0 in
-      (eqb-true e.0.top top key.0, key.1, passes-valid (answer_fault book task worker (Fit (part_on task.set e.1))) parts.1)
+      (eqb-true e.0.top top key.0, key.1, passes-valid (answer_fault book task worker (Fit (restrict_to task.set e.1))) parts.1)
 
   refutation-parts : (e : Key × Refutation) → gives_refutation top book task worker e ≡ true → (e.0.top ≡ top) × IsValid book task worker (Refuted e.1)
   refutation-parts e h =
@@ -89,7 +89,7 @@ module _ (top : ℕ) (book : BookView) (task : Task) (worker : Worker) where
       rw (m, r) refl
 
   -- The entry that is found is valid.
-  pub fit-valid : (es : List (Key × List (ℕ × ℕ))) (e : Key × List (ℕ × ℕ)) → find (gives_fit top book task worker) es ≡ Some e → IsValid book task worker (Fit (part_on task.set e.1))
+  pub fit-valid : (es : List (Key × List (ℕ × ℕ))) (e : Key × List (ℕ × ℕ)) → find (gives_fit top book task worker) es ≡ Some e → IsValid book task worker (Fit (restrict_to task.set e.1))
   fit-valid es e h = (fit-parts e (found-passes (gives_fit top book task worker) es e h)).2
 
   pub refutation-valid : (es : List (Key × Refutation)) (e : Key × Refutation) → find (gives_refutation top book task worker) es ≡ Some e → IsValid book task worker (Refuted e.1)

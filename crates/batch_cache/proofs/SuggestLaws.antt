@@ -7,11 +7,11 @@ use Rattle.cert_types.specs.declared.answer.Answer.TheVariants.{Fit, Refuted}
 use Rattle.cert_types.specs.declared.answer.Refutation.{Refutation}
 use Rattle.cert_types.specs.declared.task.Task.{Task}
 use Rattle.batch_cache.specs.declared.key.Key.{Key}
-use Rattle.batch_cache.specs.Answering.{cached_answer, fitting_map, gives_fit, gives_refutation, is_valid, part_on, valid_refutation}
-use Rattle.batch_cache.specs.Kept.{CacheView}
-use Rattle.batch_cache.specs.Looks.{may_answer}
+use Rattle.batch_cache.specs.Answering.{cached_answer, fitting_map, gives_fit, gives_refutation, is_valid, restrict_to, valid_refutation}
+use Rattle.batch_cache.specs.Cache.{CacheView}
+use Rattle.batch_cache.specs.KeptRefutation.{may_answer}
 use Rattle.batch_cache.specs.Suggesting.{found_suggestion, holding_map, holds_task, likely_refutation, may_refute, suggested_answer}
-use Rattle.batch_cache.proofs.LookLemmas.{valid-may}
+use Rattle.batch_cache.proofs.KeptRefutationLemmas.{valid-may}
 
 -- If a test finds nothing, a stricter test finds nothing.
 fewer-found : {A : Type 0} (p q : A → Bool) (es : List A) → ((e : A) → q e ≡ true → p e ≡ true) → find p es ≡ None → find q es ≡ None
@@ -31,7 +31,7 @@ neither task None (Some e) h = cc
 neither task (Some e) r h = cc
 
 fit-held : (top : ℕ) (book : BookView) (task : Task) (worker : Worker) (e : Key × List (ℕ × ℕ)) → gives_fit top book task worker e ≡ true → holds_task top task e ≡ true
-fit-held top book task worker e h = (and_parts (holds_task top task e) (is_valid book task worker (Fit (part_on task.set e.1))) h).0
+fit-held top book task worker e h = (and_parts (holds_task top task e) (is_valid book task worker (Fit (restrict_to task.set e.1))) h).0
 
 refutation-likely : (top : ℕ) (book : BookView) (task : Task) (worker : Worker) (e : Key × Refutation) → gives_refutation top book task worker e ≡ true → may_refute top task worker e ≡ true
 refutation-likely top book task worker e h =

@@ -7,7 +7,7 @@ use Rattle.std.proofs.lemmas.List.{drop_all}
 use Rattle.pack_defs.specs.Lists.{is_ascending, is_in}
 use Rattle.pack_defs.proofs.Chains.{ascending-skip}
 use Rattle.pack_defs.proofs.Words.{ascending-rest}
-use Rattle.batch_cache.specs.Walks.{finds_all}
+use Rattle.batch_cache.specs.Walks.{has_all_sorted}
 
 pub not-same : (x y : ℕ) → x < y → (x == y) ≡ false
 not-same x y h = grind (arith, nat_tests)
@@ -31,15 +31,15 @@ above-first x xs (y ∷ ys) h =
     ∙ ap (λ (b : Bool). is_in xs y && b) (above-first x xs ys (ascending-skip x y ys h))
 
 -- The walk finds all exactly if the first list has all.
-walk-tells : (xs ys : List ℕ) → is_ascending xs ≡ true → is_ascending ys ≡ true → finds_all xs ys ≡ list_all (is_in xs) ys
+walk-tells : (xs ys : List ℕ) → is_ascending xs ≡ true → is_ascending ys ≡ true → has_all_sorted xs ys ≡ list_all (is_in xs) ys
 walk-tells [] [] hx hy = refl
 walk-tells [] (y ∷ ys) hx hy = refl
 walk-tells (x ∷ xs) [] hx hy = refl
 walk-tells (x ∷ xs) (y ∷ ys) hx hy =
     let rest = ascending-rest x xs hx in
-    (elim (nat_lt y x) as (λ b. nat_lt y x ≡ b → cond b false (cond (y == x) (finds_all xs ys) (finds_all xs (y ∷ ys))) ≡ list_all (is_in (x ∷ xs)) (y ∷ ys)) [
+    (elim (nat_lt y x) as (λ b. nat_lt y x ≡ b → cond b false (cond (y == x) (has_all_sorted xs ys) (has_all_sorted xs (y ∷ ys))) ≡ list_all (is_in (x ∷ xs)) (y ∷ ys)) [
       | true ↦ λ less. sym (ap (λ (b : Bool). b && list_all (is_in (x ∷ xs)) ys) (below-first x xs y hx (ltb-true y x less)))
-      | false ↦ λ none. (elim (y == x) as (λ b. (y == x) ≡ b → cond b (finds_all xs ys) (finds_all xs (y ∷ ys)) ≡ list_all (is_in (x ∷ xs)) (y ∷ ys)) [
+      | false ↦ λ none. (elim (y == x) as (λ b. (y == x) ≡ b → cond b (has_all_sorted xs ys) (has_all_sorted xs (y ∷ ys)) ≡ list_all (is_in (x ∷ xs)) (y ∷ ys)) [
         | true ↦ λ e.
             let here : (x == y) ≡ true = grind (arith, nat_tests) in
             let above : is_ascending (x ∷ ys) ≡ true = subst (λ (z : ℕ). is_ascending (z ∷ ys) ≡ true) (eqb-true y x e) hy in
@@ -54,20 +54,20 @@ walk-tells (x ∷ xs) (y ∷ ys) hx hy =
     ]) refl
 
 -- The same for the lists behind two models.
-pub told : (xs ys inside others : List ℕ) (a b : Bool) → inside ≡ xs → others ≡ ys → a ≡ is_ascending inside → b ≡ is_ascending others → a ≡ true → b ≡ true → finds_all inside others ≡ list_all (is_in xs) ys
+pub told : (xs ys inside others : List ℕ) (a b : Bool) → inside ≡ xs → others ≡ ys → a ≡ is_ascending inside → b ≡ is_ascending others → a ≡ true → b ≡ true → has_all_sorted inside others ≡ list_all (is_in xs) ys
 told xs ys inside others a b these those up also h k =
     walk-tells inside others (sym up ∙ h) (sym also ∙ k)
     ∙ (ap (λ (zs : List ℕ). list_all (is_in zs) others) these ∙ ap (list_all (is_in xs)) those)
 
 -- A longer list is not found.
-pub longer-not-found : (xs ys : List ℕ) → length xs < length ys → finds_all xs ys ≡ false
+pub longer-not-found : (xs ys : List ℕ) → length xs < length ys → has_all_sorted xs ys ≡ false
 longer-not-found [] [] h = absurd (omega arith)
 longer-not-found [] (y ∷ ys) h = refl
 longer-not-found (x ∷ xs) [] h = absurd (omega arith)
 longer-not-found (x ∷ xs) (y ∷ ys) h =
-    elim (nat_lt y x) as (λ b. cond b false (cond (y == x) (finds_all xs ys) (finds_all xs (y ∷ ys))) ≡ false) [
+    elim (nat_lt y x) as (λ b. cond b false (cond (y == x) (has_all_sorted xs ys) (has_all_sorted xs (y ∷ ys))) ≡ false) [
       | true ↦ refl
-      | false ↦ elim (y == x) as (λ b. cond b (finds_all xs ys) (finds_all xs (y ∷ ys)) ≡ false) [
+      | false ↦ elim (y == x) as (λ b. cond b (has_all_sorted xs ys) (has_all_sorted xs (y ∷ ys)) ≡ false) [
         | true ↦ longer-not-found xs ys (omega arith)
         | false ↦ longer-not-found xs (y ∷ ys) (omega arith)
       ]
@@ -75,14 +75,14 @@ longer-not-found (x ∷ xs) (y ∷ ys) h =
 
 -- ---- the end of a walk
 
-none-sought : (xs : List ℕ) → finds_all xs [] ≡ true
+none-sought : (xs : List ℕ) → has_all_sorted xs [] ≡ true
 none-sought [] = refl
 none-sought (x ∷ xs) = refl
 
-pub all-found : (xs ys : List ℕ) (i j : ℕ) (all : Bool) → length ys ≤ j → finds_all (drop i xs) (drop j ys) ≡ all → true ≡ all
-all-found xs ys i j all h left = sym (none-sought (drop i xs)) ∙ (sym (ap (finds_all (drop i xs)) (drop_all j ys h)) ∙ left)
+pub all-found : (xs ys : List ℕ) (i j : ℕ) (all : Bool) → length ys ≤ j → has_all_sorted (drop i xs) (drop j ys) ≡ all → true ≡ all
+all-found xs ys i j all h left = sym (none-sought (drop i xs)) ∙ (sym (ap (has_all_sorted (drop i xs)) (drop_all j ys h)) ∙ left)
 
-none-left : (ys : List ℕ) (j : ℕ) → j ≤ length ys → nat_eq j (length ys) ≡ finds_all [] (drop j ys)
+none-left : (ys : List ℕ) (j : ℕ) → j ≤ length ys → nat_eq j (length ys) ≡ has_all_sorted [] (drop j ys)
 none-left [] zero h = refl
 none-left [] (suc j) h = absurd (omega arith)
 none-left (y ∷ ys) zero h = grind (arith, nat_tests)
@@ -90,5 +90,5 @@ none-left (y ∷ ys) (suc j) h =
     let less : nat_eq (suc j) (suc (length ys)) ≡ nat_eq j (length ys) = grind (arith, nat_tests) in
     less ∙ none-left ys j (omega arith)
 
-pub walked-along : (xs ys : List ℕ) (i j : ℕ) (all : Bool) → length xs ≤ i → j ≤ length ys → finds_all (drop i xs) (drop j ys) ≡ all → nat_eq j (length ys) ≡ all
-walked-along xs ys i j all h within left = none-left ys j within ∙ (sym (ap (λ (zs : List ℕ). finds_all zs (drop j ys)) (drop_all i xs h)) ∙ left)
+pub walked-along : (xs ys : List ℕ) (i j : ℕ) (all : Bool) → length xs ≤ i → j ≤ length ys → has_all_sorted (drop i xs) (drop j ys) ≡ all → nat_eq j (length ys) ≡ all
+walked-along xs ys i j all h within left = none-left ys j within ∙ (sym (ap (λ (zs : List ℕ). has_all_sorted zs (drop j ys)) (drop_all i xs h)) ∙ left)

@@ -12,11 +12,11 @@ use Rattle.cert_types.specs.declared.answer.Refutation.{Refutation}
 use Rattle.cert_types.specs.declared.task.Task.{Task}
 use Rattle.cert_types.specs.Valid.{answer_fault}
 use Rattle.batch_cache.specs.declared.key.Key.{Key}
-use Rattle.batch_cache.specs.Kept.{CacheView, to_front}
+use Rattle.batch_cache.specs.Cache.{CacheView, to_front}
 
 -- The map restricted to a set.
-abbrev pub part_on : List ℕ → List (ℕ × ℕ) → List (ℕ × ℕ)
-part_on set entries = filter (λ x. is_in set x.0) entries
+abbrev pub restrict_to : List ℕ → List (ℕ × ℕ) → List (ℕ × ℕ)
+restrict_to set entries = filter (λ x. is_in set x.0) entries
 
 -- Whether the answer is valid.
 abbrev pub is_valid : BookView → Task → Worker → Answer → Bool
@@ -26,7 +26,7 @@ is_valid book task worker answer = is_none (answer_fault book task worker answer
 -- task's set is a valid fit.
 abbrev pub gives_fit : ℕ → BookView → Task → Worker → Key × List (ℕ × ℕ) → Bool
 gives_fit top book task worker e =
-    ((e.0.top == top) && list_all (is_in e.0.set) task.set) && is_valid book task worker (Fit (part_on task.set e.1))
+    ((e.0.top == top) && list_all (is_in e.0.set) task.set) && is_valid book task worker (Fit (restrict_to task.set e.1))
 
 -- Whether a refutation is of this top channel, and valid.
 abbrev pub gives_refutation : ℕ → BookView → Task → Worker → Key × Refutation → Bool
@@ -42,7 +42,7 @@ valid_refutation view top book task worker = find (gives_refutation top book tas
 
 -- The answer, given these two entries: a fit, or else a refutation.
 abbrev pub found_answer : Task → Option (Key × List (ℕ × ℕ)) → Option (Key × Refutation) → Option Answer
-found_answer task (Some e) refutation = Some (Fit (part_on task.set e.1))
+found_answer task (Some e) refutation = Some (Fit (restrict_to task.set e.1))
 found_answer task None refutation = option_map (λ e. Refuted e.1) refutation
 
 -- The answer of the cache.
@@ -50,11 +50,11 @@ abbrev pub cached_answer : CacheView → ℕ → BookView → Task → Worker �
 cached_answer view top book task worker = found_answer task (fitting_map view top book task worker) (valid_refutation view top book task worker)
 
 -- The cache after these two entries were found: the one that answers becomes the first of its kind.
-abbrev pub moved_by : CacheView → Option (Key × List (ℕ × ℕ)) → Option (Key × Refutation) → CacheView
-moved_by view (Some e) refutation = record view { maps = to_front e view.maps }
-moved_by view None (Some e) = record view { refutations = to_front e view.refutations }
-moved_by view None None = view
+abbrev pub moved_to_front : CacheView → Option (Key × List (ℕ × ℕ)) → Option (Key × Refutation) → CacheView
+moved_to_front view (Some e) refutation = record view { maps = to_front e view.maps }
+moved_to_front view None (Some e) = record view { refutations = to_front e view.refutations }
+moved_to_front view None None = view
 
 -- The cache after its answer.
 abbrev pub after_cached_answer : CacheView → ℕ → BookView → Task → Worker → CacheView
-after_cached_answer view top book task worker = moved_by view (fitting_map view top book task worker) (valid_refutation view top book task worker)
+after_cached_answer view top book task worker = moved_to_front view (fitting_map view top book task worker) (valid_refutation view top book task worker)

@@ -1,8 +1,8 @@
 pub mod Answering
-pub mod Gaps
-pub mod Kept
-pub mod Looks
-pub mod NoneKept
+pub mod Numbers
+pub mod Cache
+pub mod KeptRefutation
+pub mod Laws
 pub mod StationBits
 pub mod Suggesting
 pub mod Walks

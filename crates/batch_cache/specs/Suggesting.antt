@@ -10,9 +10,9 @@ use Rattle.cert_types.specs.declared.answer.Refutation.{Refutation}
 use Rattle.cert_types.specs.declared.task.Task.{Task}
 use Rattle.batch_cache.specs.declared.key.Key.{Key}
 use Rattle.batch_cache.specs.declared.search.FoundAnswer.{FoundAnswer}
-use Rattle.batch_cache.specs.Answering.{moved_by}
-use Rattle.batch_cache.specs.Kept.{CacheView}
-use Rattle.batch_cache.specs.Looks.{may_answer}
+use Rattle.batch_cache.specs.Answering.{moved_to_front}
+use Rattle.batch_cache.specs.Cache.{CacheView}
+use Rattle.batch_cache.specs.KeptRefutation.{may_answer}
 
 -- Whether the entry's station is in the set and the last map lacks the entry.
 abbrev pub is_change : List ℕ → List (ℕ × ℕ) → ℕ × ℕ → Bool
@@ -49,7 +49,7 @@ suggested_answer view top task worker = found_suggestion task (holding_map view 
 
 -- The cache after its suggestion: the entry becomes the first of its kind.
 abbrev pub after_suggested : CacheView → ℕ → Task → Worker → CacheView
-after_suggested view top task worker = moved_by view (holding_map view top task) (likely_refutation view top task worker)
+after_suggested view top task worker = moved_to_front view (holding_map view top task) (likely_refutation view top task worker)
 
 -- The result of a search, if this map is suggested.
 abbrev pub changes_found : Task → Key × List (ℕ × ℕ) → FoundAnswer

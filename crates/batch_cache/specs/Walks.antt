@@ -2,8 +2,8 @@
 use Rattle.std.specs.Prelude.{ℕ, Bool, true, false, ◌==◌, nat_lt, cond, List, [], ◌∷◌}
 
 -- Whether the walk finds each number of the second list in the first.
-abbrev pub finds_all : List ℕ → List ℕ → Bool
-finds_all [] [] = true
-finds_all [] (y ∷ ys) = false
-finds_all (x ∷ xs) [] = true
-finds_all (x ∷ xs) (y ∷ ys) = cond (nat_lt y x) false (cond (y == x) (finds_all xs ys) (finds_all xs (y ∷ ys)))
+abbrev pub has_all_sorted : List ℕ → List ℕ → Bool
+has_all_sorted [] [] = true
+has_all_sorted [] (y ∷ ys) = false
+has_all_sorted (x ∷ xs) [] = true
+has_all_sorted (x ∷ xs) (y ∷ ys) = cond (nat_lt y x) false (cond (y == x) (has_all_sorted xs ys) (has_all_sorted xs (y ∷ ys)))

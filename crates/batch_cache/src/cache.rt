@@ -6,7 +6,7 @@ ghost use Rattle.pack_defs.specs.ChannelMap.{overlaid};
 ghost use Rattle.cert_types.specs.Certificate.{IsTaskOf};
 ghost use Rattle.cert_types.specs.Valid.{IsValid};
 ghost use Rattle.batch_cache.specs.Answering.{after_cached_answer, cached_answer};
-ghost use Rattle.batch_cache.specs.Kept.{after_put, first_kept, key_of, same_key};
+ghost use Rattle.batch_cache.specs.Cache.{with_answer_put, first_kept, key_of, same_key};
 ghost use Rattle.batch_cache.specs.Suggesting.{after_suggested, suggested_answer};
 
 use crate::kept_refutation::KeptRefutation;
@@ -33,7 +33,7 @@ pub struct Cache {
 
 impl Model for Cache {
     ghost use Rattle.std.specs.Prelude.{◌≡◌};
-    ghost use Rattle.batch_cache.specs.Kept.{CacheView};
+    ghost use Rattle.batch_cache.specs.Cache.{CacheView};
 
     ghost Value = { CacheView };
 
@@ -58,7 +58,7 @@ impl Cache {
     }
 
     /// Proves that the cache keeps at most as many maps, and as many refutations, as there is room for. Does nothing.
-    pub fn keeps_to_its_room(&self)
+    pub fn keeps_capacity(&self)
         ensures maps { length self.now.maps ≤ self.now.room }
         ensures refutations { length self.now.refutations ≤ self.now.room }
     {
@@ -80,7 +80,7 @@ impl Cache {
         task: &Task,
         answer: &Answer,
     ) -> Result<(), NoMemory>
-        ensures put { OnOk result (self.new ≡ after_put self.old top task.now answer.now) }
+        ensures put { OnOk result (self.new ≡ with_answer_put self.old top task.now answer.now) }
         ensures kept { OnErr result (self.new ≡ self.old) }
     {
         match answer {
@@ -178,7 +178,7 @@ impl Cache {
     }
 
     /// Returns a possible answer to a task under a top channel, which the caller must check. If the result is `None`,
-    /// no entry is valid (`none_is_suggested`).
+    /// no entry is valid (`prove_none_is_suggested`).
     ///
     /// The suggestion comes from the most recently used map of this top whose set contains the task's. It has the
     /// channels in which the map differs from the task's last map on the task's set. If no map has such a set, it is

@@ -3,16 +3,16 @@
 ghost use Rattle.std.specs.Prelude.{◌≡◌, IfOk};
 ghost use Rattle.pack_defs.specs.Book.{BookView};
 ghost use Rattle.pack_defs.specs.declared.worker.Worker.{Worker};
-ghost use Rattle.cert_types.specs.Certificate.{IsTaskOf, Tells};
+ghost use Rattle.cert_types.specs.Certificate.{IsTaskOf, ReportsPlace};
 ghost use Rattle.cert_types.specs.Valid.{answer_fault};
 ghost use Rattle.cert_types.specs.declared.answer.Answer.{Answer};
 ghost use Rattle.cert_types.specs.declared.task.Task.{Task};
 ghost use Rattle.cert_types.specs.declared.answer.Answer.TheVariants as answer;
-ghost use Rattle.batch_cache.specs.Answering.{part_on};
-ghost use Rattle.batch_cache.specs.Looks.{when_valid};
+ghost use Rattle.batch_cache.specs.Answering.{restrict_to};
+ghost use Rattle.batch_cache.specs.KeptRefutation.{when_valid};
 
 use crate::kept_refutation::KeptRefutation;
-use crate::part::part_on;
+use crate::restriction::restrict_to;
 use cert_types::answer::{Answer, CertifyWhy};
 use cert_types::certify::certify;
 use cert_types::task::Task;
@@ -30,10 +30,10 @@ pub(crate) fn fit_of(
     map: &ChannelMap,
 ) -> Result<Option<Answer>, NoMemory>
     requires { IsTaskOf book.now task.now }
-    ensures { IfOk result (λ told. told ≡ when_valid book.now task.now worker.now (answer.Fit (part_on task.now.set map.now))) }
+    ensures { IfOk result (λ told. told ≡ when_valid book.now task.now worker.now (answer.Fit (restrict_to task.now.set map.now))) }
 {
-    let part = part_on(alloc, task.set.as_slice(), map)?;
-    judged(alloc, book, task, worker, Answer::Fit(part))
+    let part = restrict_to(alloc, task.set.as_slice(), map)?;
+    if_valid(alloc, book, task, worker, Answer::Fit(part))
 }
 
 /// Returns a copy of a refutation, if it is valid. Fails only if memory runs out.
@@ -48,11 +48,11 @@ pub(crate) fn refutation_of(
     ensures { IfOk result (λ told. told ≡ when_valid book.now task.now worker.now (answer.Refuted kept.now)) }
 {
     let refutation = kept.copied(alloc)?;
-    judged(alloc, book, task, worker, Answer::Refuted(refutation))
+    if_valid(alloc, book, task, worker, Answer::Refuted(refutation))
 }
 
 // Returns the answer, if it is valid.
-fn judged(
+fn if_valid(
     alloc: Global,
     book: &Book,
     task: &Task,
@@ -64,13 +64,13 @@ fn judged(
 {
     match certify(alloc, book, task, worker, answer) {
         Ok(certified) => Ok(Some(certified.into_answer())),
-        Err(fault) => nothing_or_error(fault.why),
+        Err(fault) => none_if_rejected(fault.why),
     }
 }
 
 // Returns `None` for a rejected answer; passes out of memory on.
-fn nothing_or_error(why: CertifyWhy) -> Result<Option<Answer>, NoMemory>
-    ensures { (book : BookView) (task : Task) (worker : Worker) (answer : Answer) → Tells why (answer_fault book task worker answer) →
+fn none_if_rejected(why: CertifyWhy) -> Result<Option<Answer>, NoMemory>
+    ensures { (book : BookView) (task : Task) (worker : Worker) (answer : Answer) → ReportsPlace why (answer_fault book task worker answer) →
         IfOk result (λ told. told ≡ when_valid book task worker answer) }
 {
     match why {

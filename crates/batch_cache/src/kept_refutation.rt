@@ -2,7 +2,7 @@
 
 ghost use Rattle.std.specs.Prelude.{◌≡◌, IfOk};
 ghost use Rattle.cert_types.specs.Valid.{learns};
-ghost use Rattle.batch_cache.specs.Looks.{learns_within, may_answer, may_be_of, named_stations};
+ghost use Rattle.batch_cache.specs.KeptRefutation.{learns_within, may_answer, may_be_of, named_stations};
 
 use crate::copies::copy_of;
 use crate::signed_set::SignedSet;
@@ -23,7 +23,7 @@ pub struct KeptRefutation {
 impl Model for KeptRefutation {
     ghost use Rattle.std.specs.Prelude.{◌≡◌};
     ghost use Rattle.cert_types.specs.declared.answer.Refutation.{Refutation};
-    ghost use Rattle.batch_cache.specs.Looks.{named_stations};
+    ghost use Rattle.batch_cache.specs.KeptRefutation.{named_stations};
 
     ghost Value = { Refutation };
 

@@ -18,7 +18,7 @@
 //! - `key`: the key of an entry.
 //! - `search`: the search for an entry that answers.
 //! - `judge`: the check of an entry.
-//! - `part`: restricts a map to a set.
+//! - `restriction`: restricts a map to a set.
 //! - `kept_refutation`, `copies`: a refutation in the cache.
 //! - `signed_set`, `station_bits`, `numbers`, `witness`: fast tests whether a set contains another.
 //! - `laws`: what a look-up without a result means.
@@ -31,7 +31,7 @@ mod kept_refutation;
 mod key;
 pub mod laws;
 mod numbers;
-mod part;
+mod restriction;
 mod search;
 mod signed_set;
 mod station_bits;

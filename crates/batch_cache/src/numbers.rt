@@ -3,12 +3,12 @@
 ghost use Rattle.std.specs.Prelude.{◌≡◌, ◌/◌, IsTrue, Some, nat_lt, slice_get};
 ghost use Rattle.std.specs.Bool.{OnTrue};
 ghost use Rattle.pack_defs.specs.Lists.{is_ascending, is_in};
-ghost use Rattle.batch_cache.specs.Gaps.{ends_below, goes_on_above, has_gap};
-ghost use Rattle.batch_cache.specs.Walks.{finds_all};
+ghost use Rattle.batch_cache.specs.Numbers.{ends_below, continues_above, has_gap};
+ghost use Rattle.batch_cache.specs.Walks.{has_all_sorted};
 
 /// Whether the ascending list has the number. If the number fits between the neighbours at `gap`, it is missing.
 /// Otherwise this is a binary search, which leaves the place where a missing number would be in `gap`.
-pub(crate) fn is_in_near(numbers: &[u32], number: u32, gap: &mut usize) -> bool
+pub(crate) fn is_in_by_gap(numbers: &[u32], number: u32, gap: &mut usize) -> bool
     requires { IsTrue (is_ascending numbers.now) }
     ensures { result ≡ is_in numbers.now number }
 {
@@ -26,19 +26,19 @@ pub(crate) fn is_in_near(numbers: &[u32], number: u32, gap: &mut usize) -> bool
 
 /// Whether the ascending list has the number, for numbers that are asked for in ascending order. Looks at place
 /// `next` first, and advances it if the number is there. Then looks at the gap there. Only then searches.
-pub(crate) fn is_in_next(numbers: &[u32], number: u32, next: &mut usize) -> bool
+pub(crate) fn is_in_from_cursor(numbers: &[u32], number: u32, next: &mut usize) -> bool
     requires { IsTrue (is_ascending numbers.now) }
     ensures { result ≡ is_in numbers.now number }
 {
-    if stands_at(numbers, *next, number) {
+    if is_at_place(numbers, *next, number) {
         *next = next.saturating_add(1);
         return true;
     }
-    is_in_near(numbers, number, next)
+    is_in_by_gap(numbers, number, next)
 }
 
 // Whether the number is at the place.
-fn stands_at(numbers: &[u32], place: usize, number: u32) -> bool
+fn is_at_place(numbers: &[u32], place: usize, number: u32) -> bool
     ensures { OnTrue result (slice_get numbers.now place ≡ Some number) }
 {
     match numbers.get(place) {
@@ -51,15 +51,15 @@ fn stands_at(numbers: &[u32], place: usize, number: u32) -> bool
 fn has_gap(numbers: &[u32], place: usize, number: u32) -> bool
     ensures { result ≡ has_gap numbers.now place number }
 {
-    if !goes_on_above(numbers, place, number) {
+    if !continues_above(numbers, place, number) {
         return false;
     }
     ends_below(numbers, place, number)
 }
 
 // Whether the element at the place, if there is one, is above the number.
-fn goes_on_above(numbers: &[u32], place: usize, number: u32) -> bool
-    ensures { result ≡ goes_on_above numbers.now place number }
+fn continues_above(numbers: &[u32], place: usize, number: u32) -> bool
+    ensures { result ≡ continues_above numbers.now place number }
 {
     match numbers.get(place) {
         Some(next) => number < *next,
@@ -91,8 +91,8 @@ pub(crate) fn are_few(sought: usize, others: usize) -> bool
 /// Whether a walk along both lists finds each number of the second in the first. If both ascend, it does so exactly
 /// if the first list has them all. Stops at the first number that is missing and leaves its place in `missing`. Does
 /// not start if the second list is longer.
-pub(crate) fn finds_all(these: &[u32], sought: &[u32], missing: &mut usize) -> bool
-    ensures { result ≡ finds_all these.now sought.now }
+pub(crate) fn has_all_sorted(these: &[u32], sought: &[u32], missing: &mut usize) -> bool
+    ensures { result ≡ has_all_sorted these.now sought.now }
 {
     if these.len() < sought.len() {
         return false;

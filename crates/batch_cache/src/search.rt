@@ -4,13 +4,13 @@
 ghost use Rattle.std.specs.Prelude.{◌≡◌, IfOk, find, option_map};
 ghost use Rattle.cert_types.specs.Certificate.{IsTaskOf};
 ghost use Rattle.batch_cache.specs.Answering.{gives_fit, gives_refutation};
-ghost use Rattle.batch_cache.specs.Looks.{fit_found, refutation_found};
+ghost use Rattle.batch_cache.specs.KeptRefutation.{fit_found, refutation_found};
 ghost use Rattle.batch_cache.specs.Suggesting.{changes_found, holds_task, may_refute};
 
 use crate::judge::{fit_of, refutation_of};
 use crate::kept_refutation::KeptRefutation;
 use crate::key::Key;
-use crate::part::changes_on;
+use crate::restriction::changes_on;
 use crate::signed_set::SignedSet;
 use crate::witness::Witness;
 use cert_types::answer::Answer;

@@ -9,9 +9,9 @@ ghost use Rattle.std.specs.Cmp.Lexicographic.{nat_list_eq_equiv, pointwise};
 ghost use Rattle.std.specs.Cmp.Rules.{hashing};
 ghost use Rattle.std.proofs.Common.{rules};
 ghost use Rattle.pack_defs.specs.Lists.{is_in};
-ghost use Rattle.batch_cache.specs.Gaps.{lacks_at};
+ghost use Rattle.batch_cache.specs.Numbers.{lacks_at};
 
-use crate::numbers::{are_few, finds_all, is_in_near, is_in_next};
+use crate::numbers::{are_few, has_all_sorted, is_in_by_gap, is_in_from_cursor};
 use crate::station_bits::{StationBits, are_covered, station_bits};
 use crate::witness::Witness;
 use cert_types::subset::ascends;
@@ -111,7 +111,7 @@ impl SignedSet {
         ensures { result ≡ is_in self.now station }
     {
         if self.ascends {
-            return is_in_next(&self.stations, station, next);
+            return is_in_from_cursor(&self.stations, station, next);
         }
         self.stations.contains(&station)
     }
@@ -124,13 +124,13 @@ impl SignedSet {
         if !are_covered(&self.bits, &others.bits) {
             return false;
         }
-        self.has_where_covered(others, witness)
+        self.has_all_covered(others, witness)
     }
 
     // The rest of `holds`, if the bits do not decide. It is a function of its own so that the common case does not
     // pay for its stack frame.
     #[inline(never)]
-    fn has_where_covered(&self, others: &SignedSet, witness: &mut Witness) -> bool
+    fn has_all_covered(&self, others: &SignedSet, witness: &mut Witness) -> bool
         ensures { result ≡ list_all (is_in self.now) others.now }
     {
         if self.lacks(others, witness) {
@@ -146,15 +146,15 @@ impl SignedSet {
         let Some(station) = others.stations.get(witness.place) else {
             return false;
         };
-        !self.has_near(*station, &mut witness.gap)
+        !self.has_by_gap(*station, &mut witness.gap)
     }
 
     // Whether the set has the station. If the set ascends, looks at the gap first.
-    fn has_near(&self, station: u32, gap: &mut usize) -> bool
+    fn has_by_gap(&self, station: u32, gap: &mut usize) -> bool
         ensures { result ≡ is_in self.now station }
     {
         if self.ascends {
-            return is_in_near(&self.stations, station, gap);
+            return is_in_by_gap(&self.stations, station, gap);
         }
         self.stations.contains(&station)
     }
@@ -170,7 +170,7 @@ impl SignedSet {
         if are_few(others.stations.len(), self.stations.len()) {
             return self.has_each(&others.stations, &mut witness.place);
         }
-        finds_all(&self.stations, &others.stations, &mut witness.place)
+        has_all_sorted(&self.stations, &others.stations, &mut witness.place)
     }
 
     // Whether the set has each of these stations, each looked up by itself. Leaves the place of a missing one in

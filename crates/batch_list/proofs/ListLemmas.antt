@@ -7,7 +7,7 @@ use Rattle.std.proofs.lemmas.List.{drop_all, drop_more, length-map, length-appen
 use Rattle.std.proofs.Math.ListN.{get_or-map}
 use Rattle.constraint_files.specs.Records.{line_records, lines_of}
 use Rattle.batch_list.specs.ListOf.{ListedNames, after_list_line, list_limit, list_of, unless_empty, listed_of, with_list_lines, with_listed, with_all_listed}
-use Rattle.batch_list.specs.Reads.{ListChanges, ListReads}
+use Rattle.batch_list.specs.Read.{ListChanges, ListReads}
 use Rattle.batch_list.specs.declared.error.ListAddErr.{ListAddErr}
 use Rattle.batch_list.specs.declared.error.ListAddErr.TheVariants.{NoMemory, Refused}
 use Rattle.batch_list.specs.declared.error.ListErr.{ListErr}

@@ -1,3 +1,3 @@
 pub mod ListOf
-pub mod Reads
+pub mod Read
 pub mod Repeated

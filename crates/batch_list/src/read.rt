@@ -4,7 +4,7 @@
 ghost use Rattle.std.specs.Prelude.{◌≤◌, [], IfOk, length, map};
 ghost use Rattle.constraint_files.specs.Records.{line_records, lines_of};
 ghost use Rattle.batch_list.specs.ListOf.{list_limit, list_of, with_list_lines, with_listed, with_all_listed};
-ghost use Rattle.batch_list.specs.Reads.{ListChanges, ListReads};
+ghost use Rattle.batch_list.specs.Read.{ListChanges, ListReads};
 
 use crate::error::{ListAddErr, ListErr};
 use crate::line::{BatchLine, names_of};

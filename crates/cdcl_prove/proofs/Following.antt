@@ -10,14 +10,14 @@ use Rattle.clause_db.specs.Clauses.{Clauses}
 use Rattle.clause_db.specs.Forced.{is_false_clause, not_false, only_open, forced_by}
 use Rattle.clause_db.proofs.Literals.{same_lit-is, lit-parts, has-push_new, open-kept}
 use Rattle.rup_check.specs.declared.error.LineErr.{LineErr}
-use Rattle.rup_check.specs.Follows.{line_fault, hints_fault, end_fault, with_forced, after_hint, fault_or, has_bad_lits, has_repeat}
+use Rattle.rup_check.specs.Follows.{line_fault, hints_fault, last_hint_fault, with_forced, after_hint, fault_or, has_bad_lits, has_repeat}
 use Rattle.trail_prop.specs.declared.entry.TrailEntry.{TrailEntry}
 use Rattle.trail_prop.specs.Entries.{lits_of}
 use Rattle.trail_prop.specs.Trails.{EachFits, IsTrail, HasReason, forced_at, IsFalseAt}
 use Rattle.trail_prop.proofs.Known.{open-apart}
 use Rattle.trail_prop.proofs.Forcing.{only_open-is}
 use Rattle.trail_prop.proofs.Opening.{lits-push}
-use Rattle.cdcl_prove.specs.Analysis.{entries_passing, reason_of, learnt_line_of, hints_of, IsMetAt, IsReasonMet, AreClosed}
+use Rattle.cdcl_prove.specs.Analysis.{entries_passing, reason_of, learnt_line_of, hints_of, AreVariablesSeen, IsReasonSeen, AreClosed}
 use Rattle.trail_prop.proofs.Meeting.{known-more}
 
 pub append-nil : {A : Type 0} (xs : List A) → xs ++ [] ≡ xs
@@ -102,11 +102,11 @@ still-false kept resolved entries (l ∷ ls) f met =
     (known-where kept resolved entries entries (opposite l) parts.0 parts.0 (All-head (λ (m : Lit). (kept m.var || resolved m.var) ≡ true) l ls met))
     (still-false kept resolved entries ls parts.1 (All-tail (λ (m : Lit). (kept m.var || resolved m.var) ≡ true) l ls met))
 
-ends : (kept resolved : ℕ → Bool) (entries : List TrailEntry) (place : ℕ) (o : Option (List Lit)) → IsFalseAt (lits_of entries) o → IsMetAt (λ v. kept v || resolved v) o → end_fault (known_at kept resolved entries entries) place o ≡ None
+ends : (kept resolved : ℕ → Bool) (entries : List TrailEntry) (place : ℕ) (o : Option (List Lit)) → IsFalseAt (lits_of entries) o → AreVariablesSeen (λ v. kept v || resolved v) o → last_hint_fault (known_at kept resolved entries entries) place o ≡ None
 ends kept resolved entries place None f met = absurd f
 ends kept resolved entries place (Some clause) f met = rw (still-false kept resolved entries clause f met) refl
 
-forces : (kept resolved : ℕ → Bool) (entries before : List TrailEntry) (place : ℕ) (l : Lit) (o : Option (List Lit)) → ((m : Lit) → has_lit (lits_of before) m ≡ true → has_lit (lits_of entries) m ≡ true) → forced_at (lits_of before) o ≡ Some l → IsMetAt (λ v. kept v || resolved v) o → kept l.var ≡ false → after_hint (known_at kept resolved entries before) place o ≡ Ok (known_at kept resolved entries before ++ l ∷ [])
+forces : (kept resolved : ℕ → Bool) (entries before : List TrailEntry) (place : ℕ) (l : Lit) (o : Option (List Lit)) → ((m : Lit) → has_lit (lits_of before) m ≡ true → has_lit (lits_of entries) m ≡ true) → forced_at (lits_of before) o ≡ Some l → AreVariablesSeen (λ v. kept v || resolved v) o → kept l.var ≡ false → after_hint (known_at kept resolved entries before) place o ≡ Ok (known_at kept resolved entries before ++ l ∷ [])
 forces kept resolved entries before place l None sub f met k = absurd met
 forces kept resolved entries before place l (Some clause) sub f met k =
     ap (λ (z : Option Lit). with_forced (known_at kept resolved entries before) place z) (still-forced kept resolved entries before clause l sub met k f)
@@ -117,13 +117,13 @@ hint-before clauses known place h n [] = refl
 hint-before clauses known place h n (g ∷ gs) = refl
 
 -- the hints from an entry on
-from-here : (c : Clauses) (kept resolved : ℕ → Bool) (entries : List TrailEntry) (n : ℕ) (before es : List TrailEntry) (place : ℕ) → entries ≡ before ++ es → EachFits c before es → ((v : ℕ) → resolved v ≡ true → kept v ≡ false) → AreClosed resolved (λ v. kept v || resolved v) c.list es → IsFalseAt (lits_of entries) (clause_at c.list n) → IsMetAt (λ v. kept v || resolved v) (clause_at c.list n) → hints_fault c.list (known_at kept resolved entries before) place (hints_of resolved es n) ≡ None
+from-here : (c : Clauses) (kept resolved : ℕ → Bool) (entries : List TrailEntry) (n : ℕ) (before es : List TrailEntry) (place : ℕ) → entries ≡ before ++ es → EachFits c before es → ((v : ℕ) → resolved v ≡ true → kept v ≡ false) → AreClosed resolved (λ v. kept v || resolved v) c.list es → IsFalseAt (lits_of entries) (clause_at c.list n) → AreVariablesSeen (λ v. kept v || resolved v) (clause_at c.list n) → hints_fault c.list (known_at kept resolved entries before) place (hints_of resolved es n) ≡ None
 from-here c kept resolved entries n before [] place e f apart closed false' met =
     let whole : entries ≡ before = e ∙ append-nil before in
-    subst (λ (z : List TrailEntry). end_fault (known_at kept resolved entries z) place (clause_at c.list n) ≡ None) whole (ends kept resolved entries place (clause_at c.list n) false' met)
+    subst (λ (z : List TrailEntry). last_hint_fault (known_at kept resolved entries z) place (clause_at c.list n) ≡ None) whole (ends kept resolved entries place (clause_at c.list n) false' met)
 from-here c kept resolved entries n before (x ∷ xs) place e f apart closed false' met =
     let later : entries ≡ (before ++ x ∷ []) ++ xs = e ∙ sym (append_assoc before (x ∷ []) xs) in
-    step (λ p. from-here c kept resolved entries n (before ++ x ∷ []) xs p later f.1 apart (All-tail (λ (y : TrailEntry). resolved y.lit.var ≡ true → IsReasonMet (λ v. kept v || resolved v) c.list y.reason) x xs closed) false' met) (resolved x.lit.var) refl
+    step (λ p. from-here c kept resolved entries n (before ++ x ∷ []) xs p later f.1 apart (All-tail (λ (y : TrailEntry). resolved y.lit.var ≡ true → IsReasonSeen (λ v. kept v || resolved v) c.list y.reason) x xs closed) false' met) (resolved x.lit.var) refl
   where
     grown : (b : Bool) → resolved x.lit.var ≡ b → known_at kept resolved entries (before ++ x ∷ []) ≡ known_at kept resolved entries before ++ lits_of (cond b (x ∷ []) [])
     grown b r =
@@ -134,7 +134,7 @@ from-here c kept resolved entries n before (x ∷ xs) place e f apart closed fal
     sub : (m : Lit) → has_lit (lits_of before) m ≡ true → has_lit (lits_of entries) m ≡ true
     sub m h = subst (λ (z : List TrailEntry). has_lit (lits_of z) m ≡ true) (sym e) (known-more before (x ∷ xs) m h)
 
-    hint : ((p : ℕ) → hints_fault c.list (known_at kept resolved entries (before ++ x ∷ [])) p (hints_of resolved xs n) ≡ None) → (o : Option ℕ) → HasReason c.list (lits_of before) x.lit o → IsReasonMet (λ v. kept v || resolved v) c.list o → resolved x.lit.var ≡ true → x.reason ≡ o → hints_fault c.list (known_at kept resolved entries before) place (reason_of x ∷ hints_of resolved xs n) ≡ None
+    hint : ((p : ℕ) → hints_fault c.list (known_at kept resolved entries (before ++ x ∷ [])) p (hints_of resolved xs n) ≡ None) → (o : Option ℕ) → HasReason c.list (lits_of before) x.lit o → IsReasonSeen (λ v. kept v || resolved v) c.list o → resolved x.lit.var ≡ true → x.reason ≡ o → hints_fault c.list (known_at kept resolved entries before) place (reason_of x ∷ hints_of resolved xs n) ≡ None
     hint rest None h m r w = absurd m
     hint rest (Some k) h m r w =
         let a = forces kept resolved entries before place x.lit (clause_at c.list k) sub h m (apart x.lit.var r) in
@@ -144,7 +144,7 @@ from-here c kept resolved entries n before (x ∷ xs) place e f apart closed fal
         ∙ subst (λ (z : List Lit). hints_fault c.list z (place + 1) (hints_of resolved xs n) ≡ None) (grown true r) (rest (place + 1))))
 
     step : ((p : ℕ) → hints_fault c.list (known_at kept resolved entries (before ++ x ∷ [])) p (hints_of resolved xs n) ≡ None) → (b : Bool) → resolved x.lit.var ≡ b → hints_fault c.list (known_at kept resolved entries before) place (map reason_of (cond b (x ∷ entries_passing resolved xs) (entries_passing resolved xs)) ++ n ∷ []) ≡ None
-    step rest true r = hint rest x.reason f.0.reasons (All-head (λ (y : TrailEntry). resolved y.lit.var ≡ true → IsReasonMet (λ v. kept v || resolved v) c.list y.reason) x xs closed r) r refl
+    step rest true r = hint rest x.reason f.0.reasons (All-head (λ (y : TrailEntry). resolved y.lit.var ≡ true → IsReasonSeen (λ v. kept v || resolved v) c.list y.reason) x xs closed r) r refl
     step rest false r = subst (λ (z : List Lit). hints_fault c.list z place (hints_of resolved xs n) ≡ None) (grown false r ∙ append-nil (known_at kept resolved entries before)) (rest place)
 
 -- ---- the line's literals
@@ -191,7 +191,7 @@ opposites [] = refl
 opposites (x ∷ xs) = λ i. lit-parts (opposite (opposite x.lit)) x.lit refl (not-not x.lit.positive) i ∷ opposites xs i
 
 -- the line follows
-pub line-follows : (c : Clauses) (kept resolved : ℕ → Bool) (entries : List TrailEntry) (n : ℕ) → IsTrail c entries → ((v : ℕ) → resolved v ≡ true → kept v ≡ false) → AreClosed resolved (λ v. kept v || resolved v) c.list entries → IsFalseAt (lits_of entries) (clause_at c.list n) → IsMetAt (λ v. kept v || resolved v) (clause_at c.list n) → line_fault c.vars c.list (record { lits = learnt_line_of kept entries; hints = hints_of resolved entries n }) ≡ None
+pub line-follows : (c : Clauses) (kept resolved : ℕ → Bool) (entries : List TrailEntry) (n : ℕ) → IsTrail c entries → ((v : ℕ) → resolved v ≡ true → kept v ≡ false) → AreClosed resolved (λ v. kept v || resolved v) c.list entries → IsFalseAt (lits_of entries) (clause_at c.list n) → AreVariablesSeen (λ v. kept v || resolved v) (clause_at c.list n) → line_fault c.vars c.list (record { lits = learnt_line_of kept entries; hints = hints_of resolved entries n }) ≡ None
 unfolding line_fault
 line-follows c kept resolved entries n t apart closed false' met =
     let good : has_bad_lits c.vars (learnt_line_of kept entries) ≡ false = or_from (list_any (λ (l : Lit). (l.var == 0) || nat_lt c.vars l.var) (learnt_line_of kept entries)) (has_repeat (map (λ (l : Lit). l.var) (learnt_line_of kept entries))) (no-bad_var c kept [] entries t) (no-repeat c kept [] entries t) in

@@ -12,7 +12,7 @@ use Rattle.rup_check.specs.declared.line.Line.{Line}
 use Rattle.rup_check.specs.Follows.{clauses_before}
 use Rattle.cnf_encode.specs.Decode.{listed_model}
 use Rattle.trail_prop.specs.Open.{IsClauseSettled, IsComplete, value_known}
-use Rattle.cdcl_prove.specs.Picks.{IsTotal}
+use Rattle.cdcl_prove.specs.Guide.{IsTotal}
 
 -- the model of a variable is whether the variable is true on the trail
 abbrev pub Reads : ℕ → List Lit → (ℕ → Bool) → Type 0

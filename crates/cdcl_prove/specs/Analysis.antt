@@ -6,23 +6,23 @@ use Rattle.clause_db.specs.declared.lit.Lit.{Lit}
 use Rattle.clause_db.specs.Clause.{opposite, clause_at}
 use Rattle.trail_prop.specs.declared.entry.TrailEntry.{TrailEntry}
 use Rattle.cdcl_prove.specs.declared.mark.VariableMark.{VariableMark}
-use Rattle.cdcl_prove.specs.declared.mark.VariableMark.TheVariants.{Unmet, Kept, Resolved}
+use Rattle.cdcl_prove.specs.declared.mark.VariableMark.TheVariants.{Unseen, Kept, Resolved}
 
--- Whether the mark is `Kept`.
+-- Whether the mark is `CheckedSuggestion`.
 abbrev pub is_kept : VariableMark → Bool
-is_kept Unmet = false
+is_kept Unseen = false
 is_kept Kept = true
 is_kept Resolved = false
 
 -- Whether the mark is `Resolved`.
 abbrev pub is_resolved : VariableMark → Bool
-is_resolved Unmet = false
+is_resolved Unseen = false
 is_resolved Kept = false
 is_resolved Resolved = true
 
 -- The mark of a variable. The first mark is of variable 1.
 abbrev pub mark_of : List VariableMark → ℕ → VariableMark
-mark_of marks v = slice_index_or marks (v - 1) Unmet
+mark_of marks v = slice_index_or marks (v - 1) Unseen
 
 -- Whether the variable is kept.
 abbrev pub keeps : List VariableMark → ℕ → Bool
@@ -33,8 +33,8 @@ abbrev pub resolves : List VariableMark → ℕ → Bool
 resolves marks v = is_resolved (mark_of marks v)
 
 -- Whether the variable was met.
-abbrev pub has_met : List VariableMark → ℕ → Bool
-has_met marks v = keeps marks v || resolves marks v
+abbrev pub has_seen : List VariableMark → ℕ → Bool
+has_seen marks v = keeps marks v || resolves marks v
 
 -- The entries whose variables pass the test.
 abbrev pub entries_passing : (ℕ → Bool) → List TrailEntry → List TrailEntry
@@ -53,31 +53,31 @@ abbrev pub hints_of : (ℕ → Bool) → List TrailEntry → ℕ → List ℕ
 hints_of resolved entries conflict = map reason_of (entries_passing resolved entries) ++ conflict ∷ []
 
 -- Whether there is a clause, and each of its variables was met.
-abbrev pub IsMetAt : (ℕ → Bool) → Option (List Lit) → Type 0
-IsMetAt met None = ⊥
-IsMetAt met (Some clause) = All (λ l. met l.var ≡ true) clause
+abbrev pub AreVariablesSeen : (ℕ → Bool) → Option (List Lit) → Type 0
+AreVariablesSeen met None = ⊥
+AreVariablesSeen met (Some clause) = All (λ l. met l.var ≡ true) clause
 
 -- Whether there is a reason, and each of its variables was met.
-abbrev pub IsReasonMet : (ℕ → Bool) → List (List Lit) → Option ℕ → Type 0
-IsReasonMet met clauses None = ⊥
-IsReasonMet met clauses (Some n) = IsMetAt met (clause_at clauses n)
+abbrev pub IsReasonSeen : (ℕ → Bool) → List (List Lit) → Option ℕ → Type 0
+IsReasonSeen met clauses None = ⊥
+IsReasonSeen met clauses (Some n) = AreVariablesSeen met (clause_at clauses n)
 
 -- Whether for each entry that is resolved away, the variables of its reason were met.
 abbrev pub AreClosed : (ℕ → Bool) → (ℕ → Bool) → List (List Lit) → List TrailEntry → Type 0
-AreClosed resolved met clauses entries = All (λ e. resolved e.lit.var ≡ true → IsReasonMet met clauses e.reason) entries
+AreClosed resolved met clauses entries = All (λ e. resolved e.lit.var ≡ true → IsReasonSeen met clauses e.reason) entries
 
 -- Whether the later marks have met at least as many variables, and resolve the same ones away.
-pub record MeetsMore (earlier later : List VariableMark) : Type 0 where
+pub record SeesMore (earlier later : List VariableMark) : Type 0 where
   pub size : length later ≡ length earlier
-  pub still : (v : ℕ) → has_met earlier v ≡ true → has_met later v ≡ true
+  pub still : (v : ℕ) → has_seen earlier v ≡ true → has_seen later v ≡ true
   pub same : (v : ℕ) → resolves later v ≡ resolves earlier v
 
 -- Whether each variable has a mark, and for each entry that is resolved away, the variables of its reason were met.
 pub record IsClosed (vars : ℕ) (clauses : List (List Lit)) (entries : List TrailEntry) (marks : List VariableMark) : Type 0 where
   pub size : length marks ≡ vars
-  pub closed : AreClosed (resolves marks) (has_met marks) clauses entries
+  pub closed : AreClosed (resolves marks) (has_seen marks) clauses entries
 
 -- Whether a conflict is analysed: the marks are closed, and the variables of the false clause were met.
 pub record IsAnalysed (vars : ℕ) (clauses : List (List Lit)) (entries : List TrailEntry) (conflict : ℕ) (marks : List VariableMark) : Type 0 where
   pub closed : IsClosed vars clauses entries marks
-  pub met : IsMetAt (has_met marks) (clause_at clauses conflict)
+  pub met : AreVariablesSeen (has_seen marks) (clause_at clauses conflict)

@@ -22,7 +22,7 @@ use Rattle.cdcl_prove.specs.declared.solve.SearchEnd.{SearchEnd}
 use Rattle.cdcl_prove.specs.declared.solve.SearchEnd.TheVariants as outcome
 use Rattle.cdcl_prove.specs.Derivation.{Derived, clauses_of}
 use Rattle.cdcl_prove.specs.Formulas.{IsFormulaOf}
-use Rattle.cdcl_prove.specs.Picks.{IsTotal}
+use Rattle.cdcl_prove.specs.Guide.{IsTotal}
 
 -- A model: every variable has a value, and no clause is false.
 pub record IsModel (d : Derived) : Type 0 where

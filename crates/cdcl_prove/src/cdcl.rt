@@ -10,9 +10,9 @@ ghost use Rattle.cdcl_prove.specs.Formulas.{IsFormulaOf};
 ghost use Rattle.cdcl_prove.specs.Search.{IsModel, SearchEndIs};
 
 use crate::answers::{fit, receipt, refutation};
+use crate::checked_suggestion::{SearcherAnswer, ask_searcher};
 use crate::derivation::Derivation;
 use crate::guide::DecisionGuide;
-use crate::kept::{Asked, ask};
 use crate::policy::{STEPS_OF_LAST_CHANNEL, STEPS_WITHOUT_CHANNEL};
 use crate::search::Search;
 use crate::solve::{SearchEnd, solve};
@@ -20,13 +20,13 @@ use cert_types::answer::Answer;
 use cert_types::poll::{Attempt, Poll};
 use cert_types::task::Task;
 use cnf_encode::encode::encode;
-use first_looks::looks::{FirstLooks, Looked};
-use kept_search::searcher::Searcher;
-use kept_search::suggestion::LogLength;
-use kept_search::ties::Ties;
+use incremental_search::searcher::Searcher;
+use incremental_search::suggestion::LogLength;
+use incremental_search::tie_breaking::TieBreaking;
 use pack_defs::book::Book;
 use pack_defs::channel_map::ChannelMap;
 use pack_defs::worker::{Kind, Worker};
+use quick_fits::quick_fits::{QuickFitCounts, QuickFits};
 use std::alloc::{AllocError as NoMemory, Global};
 use std::marker::Model;
 
@@ -35,14 +35,14 @@ use std::marker::Model;
 #[derive(Drop)]
 pub struct Cdcl {
     worker: Worker,
-    looks: FirstLooks,
+    quick_fits: QuickFits,
     searcher: Searcher,
-    searched: Searched,
+    searched: SearchCounts,
 }
 
 /// Counts of queries that no quick fit answered, by what the incremental search returned. A count saturates at the greatest number.
 #[derive(Clone, Copy, Debug, PartialEq, Eq)]
-pub struct Searched {
+pub struct SearchCounts {
     /// Queries for which the incremental search found a fit.
     pub fits: u64,
     /// Queries that the incremental search refuted.
@@ -89,9 +89,9 @@ impl Cdcl {
     {
         Ok(Cdcl {
             worker: *worker,
-            looks: FirstLooks::new(alloc),
+            quick_fits: QuickFits::new(alloc),
             searcher: Searcher::new(worker.seed, logs),
-            searched: Searched {
+            searched: SearchCounts {
                 fits: 0,
                 refuted: 0,
                 left: 0,
@@ -101,12 +101,12 @@ impl Cdcl {
 
     /// Returns how many queries each quick fit has answered so far: the station's last fit, a free channel, one station that makes
     /// way.
-    pub fn looked(&self) -> Looked {
-        self.looks.looked()
+    pub fn quick_fit_counts(&self) -> QuickFitCounts {
+        self.quick_fits.quick_fit_counts()
     }
 
     /// Returns how many queries the incremental searcher has answered so far, and how many it has not.
-    pub fn searched(&self) -> Searched {
+    pub fn search_counts(&self) -> SearchCounts {
         self.searched
     }
 
@@ -149,11 +149,11 @@ impl Cdcl {
         ensures worker { self.new ≡ self.old }
         ensures goes { P.goes poll.old poll.new }
     {
-        if let Some(fit) = self.looks.look(alloc, book, task)? {
+        if let Some(fit) = self.quick_fits.quick_fit(alloc, book, task)? {
             return Ok(Attempt::Said(Answer::Fit(fit)));
         }
         let attempt = self.search(alloc, book, task, poll)?;
-        self.looks.keep_said(alloc, task, &attempt);
+        self.quick_fits.keep_attempted_fit(alloc, task, &attempt);
         Ok(attempt)
     }
 
@@ -171,8 +171,8 @@ impl Cdcl {
         ensures worker { self.new ≡ self.old }
         ensures goes { P.goes poll.old poll.new }
     {
-        let from = kept_fit(&self.looks, task.station);
-        let asked = ask(
+        let from = last_fit_changes(&self.quick_fits, task.station);
+        let asked = ask_searcher(
             alloc,
             book,
             task,
@@ -181,12 +181,12 @@ impl Cdcl {
             &mut self.searcher,
             poll,
         )?;
-        self.searched = counted(self.searched, &asked);
+        self.searched = with_search_counted(self.searched, &asked);
         match asked {
-            Asked::Came(attempt) => return Ok(attempt),
-            Asked::Open => {}
-            Asked::Part(part) => {
-                if let Some(attempt) = attempt_within(
+            SearcherAnswer::Answered(attempt) => return Ok(attempt),
+            SearcherAnswer::Open => {}
+            SearcherAnswer::SubsetUnfit(part) => {
+                if let Some(attempt) = attempt_subset(
                     alloc,
                     book,
                     task,
@@ -198,31 +198,35 @@ impl Cdcl {
                 }
             }
         }
-        attempt_whole(alloc, book, task, self.worker, poll)
+        attempt_set(alloc, book, task, self.worker, poll)
     }
 }
 
 // Returns the counts after one more call of the incremental searcher.
-fn counted(searched: Searched, asked: &Asked) -> Searched {
+fn with_search_counted(searched: SearchCounts, asked: &SearcherAnswer) -> SearchCounts {
     let mut searched = searched;
     match asked {
-        Asked::Came(Attempt::Said(Answer::Fit(_))) => {
+        SearcherAnswer::Answered(Attempt::Said(Answer::Fit(_))) => {
             searched.fits = searched.fits.saturating_add(1);
         }
-        Asked::Came(Attempt::Said(_)) => searched.refuted = searched.refuted.saturating_add(1),
-        Asked::Came(Attempt::Moved { now: _ }) => {}
-        Asked::Part(_) | Asked::Open => searched.left = searched.left.saturating_add(1),
+        SearcherAnswer::Answered(Attempt::Said(_)) => searched.refuted = searched
+            .refuted
+            .saturating_add(1),
+        SearcherAnswer::Answered(Attempt::Moved { now: _ }) => {}
+        SearcherAnswer::SubsetUnfit(_) | SearcherAnswer::Open => searched.left = searched
+            .left
+            .saturating_add(1),
     }
     searched
 }
 
 // Returns what the tested station's last fit changed.
-fn kept_fit(looks: &FirstLooks, station: Option<u32>) -> Option<&ChannelMap> {
-    looks.kept(station?)
+fn last_fit_changes(quick_fits: &QuickFits, station: Option<u32>) -> Option<&ChannelMap> {
+    quick_fits.kept(station?)
 }
 
 // Tries to refute a part of the set. `None` if the search found a model or spent its budget, which decides nothing of the set.
-fn attempt_within<P: Poll>(
+fn attempt_subset<P: Poll>(
     alloc: Global,
     book: &Book,
     task: &Task,
@@ -247,7 +251,7 @@ fn attempt_within<P: Poll>(
 }
 
 // Tries the complete set.
-fn attempt_whole<P: Poll>(
+fn attempt_set<P: Poll>(
     alloc: Global,
     book: &Book,
     task: &Task,
@@ -262,7 +266,7 @@ fn attempt_whole<P: Poll>(
     let set = task.set.as_slice();
     let (derivation, outcome) = search_set(alloc, book, task, set, worker, poll)?;
     match outcome {
-        SearchEnd::Model => say_fit(alloc, book, task, derivation),
+        SearchEnd::Model => fit_attempt(alloc, book, task, derivation),
         SearchEnd::Refuted(last) => {
             let answer = refutation(alloc, set, derivation, last)?;
             Ok(Attempt::Said(answer))
@@ -273,7 +277,7 @@ fn attempt_whole<P: Poll>(
 }
 
 // Returns the fit that a model of the complete set's formula describes, as an attempt at the query.
-fn say_fit(
+fn fit_attempt(
     alloc: Global,
     book: &Book,
     task: &Task,
@@ -320,20 +324,20 @@ fn begin(
     ensures empty { IfOk result (λ search. length search.derivation.lines ≡ 0) }
 {
     let formula = encode(alloc, book, set)?;
-    let ties = Ties::new(seed, task.number);
-    let guide = guide_by(alloc, book, task, set, formula.vars(), ties)?;
+    let ties = TieBreaking::new(seed, task.number);
+    let guide = guide_by_map(alloc, book, task, set, formula.vars(), ties)?;
     Search::new(alloc, formula, guide)
 }
 
 // Returns the guide by the last map. A station's channel in the last map is tried first, and stations without one come before all
 // others.
-fn guide_by(
+fn guide_by_map(
     alloc: Global,
     book: &Book,
     task: &Task,
     set: &[u32],
     vars: u32,
-    ties: Ties,
+    ties: TieBreaking,
 ) -> Result<DecisionGuide, NoMemory> {
     let mut guide = DecisionGuide::new(alloc, vars, ties)?;
     let mut var: u32 = 0;

@@ -2,12 +2,12 @@
 
 ghost use Rattle.std.specs.Prelude.{◌≡◌, IfSome};
 ghost use Rattle.trail_prop.specs.Entries.{lits_of};
-ghost use Rattle.cdcl_prove.specs.Picks.{IsOpenVariable, PickIs, VariableIs};
+ghost use Rattle.cdcl_prove.specs.Guide.{IsOpenVariable, PickIs, VariableIs};
 
 use crate::policy::{STEPS_OF_CONFLICT, VARIABLE_DECAY};
 use clause_db::lit::Lit;
-use kept_search::order::ActivityOrder;
-use kept_search::ties::Ties;
+use incremental_search::order::ActivityOrder;
+use incremental_search::tie_breaking::TieBreaking;
 use std::alloc::{AllocError as NoMemory, Global};
 use trail_prop::entry::TrailEntry;
 use trail_prop::trail::Trail;
@@ -26,7 +26,11 @@ pub(crate) struct DecisionGuide {
 
 impl DecisionGuide {
     /// Returns a guide without preferences: only the ties order the variables, and each is tried as false first.
-    pub(crate) fn new(alloc: Global, vars: u32, ties: Ties) -> Result<DecisionGuide, NoMemory> {
+    pub(crate) fn new(
+        alloc: Global,
+        vars: u32,
+        ties: TieBreaking,
+    ) -> Result<DecisionGuide, NoMemory> {
         let mut phases = Vec::new(alloc);
         phases.resize(vars as usize + 1, false)?;
         let mut levels = Vec::new(alloc);
@@ -140,7 +144,7 @@ impl DecisionGuide {
 }
 
 // Returns the order of the variables 1 to `vars`, with the activities that `ties` draws. Equally active ones stay in their order.
-fn ordered(alloc: Global, vars: u32, ties: Ties) -> Result<ActivityOrder, NoMemory> {
+fn ordered(alloc: Global, vars: u32, ties: TieBreaking) -> Result<ActivityOrder, NoMemory> {
     let mut ties = ties;
     let mut order = ActivityOrder::new(alloc, vars, VARIABLE_DECAY)?;
     for v in 0..vars {

@@ -1,8 +1,8 @@
 //! The marks of conflict analysis, one for each variable.
 
 ghost use Rattle.std.specs.Prelude.{ℕ, ◌≡◌, ◌≤◌, ◌⊎◌, true, OnOk, length};
-ghost use Rattle.cdcl_prove.specs.Analysis.{has_met, mark_of, resolves};
-ghost use Rattle.cdcl_prove.specs.declared.mark.VariableMark.TheVariants.{Unmet};
+ghost use Rattle.cdcl_prove.specs.Analysis.{has_seen, mark_of, resolves};
+ghost use Rattle.cdcl_prove.specs.declared.mark.VariableMark.TheVariants.{Unseen};
 
 use std::alloc::{AllocError as NoMemory, Global};
 use std::marker::Model;
@@ -11,7 +11,7 @@ use std::marker::Model;
 #[derive(Clone, Copy, Debug, PartialEq, Eq)]
 pub(crate) enum VariableMark {
     /// The analysis has not met the variable.
-    Unmet,
+    Unseen,
     /// The analysis has met the variable, and keeps its literal for the line.
     Kept,
     /// The analysis has met the variable, and resolves its literal away by the reason.
@@ -41,13 +41,13 @@ impl VariableMarks {
         }
     }
 
-    /// Gives each of this many variables the mark `Unmet`. Fails only if memory runs out.
+    /// Gives each of this many variables the mark `Unseen`. Fails only if memory runs out.
     pub(crate) fn reset(&mut self, vars: u32) -> Result<(), NoMemory>
         ensures size { OnOk result (length self.new ≡ vars) }
-        ensures unmet { OnOk result ((v : ℕ) → mark_of self.new v ≡ Unmet) }
+        ensures unmet { OnOk result ((v : ℕ) → mark_of self.new v ≡ Unseen) }
     {
         self.marks.clear();
-        self.marks.resize(vars as usize, VariableMark::Unmet)?;
+        self.marks.resize(vars as usize, VariableMark::Unseen)?;
         Ok(())
     }
 
@@ -61,15 +61,15 @@ impl VariableMarks {
     }
 
     /// Keeps a variable that is unmet. Returns whether it was unmet.
-    pub(crate) fn meet(&mut self, var: u64) -> bool
+    pub(crate) fn mark_seen(&mut self, var: u64) -> bool
         requires from_one { 1 ≤ var }
         requires within { var ≤ length self.old }
         ensures size { length self.new ≡ length self.old }
-        ensures met { has_met self.new var ≡ true }
-        ensures still { (v : ℕ) → has_met self.old v ≡ true → has_met self.new v ≡ true }
+        ensures seen_variables { has_seen self.new var ≡ true }
+        ensures still { (v : ℕ) → has_seen self.old v ≡ true → has_seen self.new v ≡ true }
         ensures same { (v : ℕ) → resolves self.new v ≡ resolves self.old v }
     {
-        if self.get(var) != VariableMark::Unmet {
+        if self.get(var) != VariableMark::Unseen {
             return false;
         }
         self.marks[(var - 1) as usize] = VariableMark::Kept;
@@ -81,7 +81,7 @@ impl VariableMarks {
         requires from_one { 1 ≤ var }
         requires within { var ≤ length self.old }
         ensures size { length self.new ≡ length self.old }
-        ensures still { (v : ℕ) → has_met self.old v ≡ true → has_met self.new v ≡ true }
+        ensures still { (v : ℕ) → has_seen self.old v ≡ true → has_seen self.new v ≡ true }
         ensures others { (v : ℕ) → 1 ≤ v → resolves self.new v ≡ true → (v ≡ var) ⊎ (resolves self.old v ≡ true) }
     {
         self.marks[(var - 1) as usize] = VariableMark::Resolved;

@@ -14,7 +14,7 @@ use Rattle.assign_check.proofs.Changed.{none-changed_violated, none-violated_cha
 use Rattle.assign_check.proofs.Faultless.{faultless, found-none, no-violation, not-joined}
 use Rattle.assign_check.proofs.Overlays.{change-stands, overlaid-from, overlaid-has, overlaid-keeps}
 use Rattle.cert_types.specs.declared.task.Task.{Task}
-use Rattle.cert_types.specs.Query.{IsQuery, has_others, is_named, is_on_domains}
+use Rattle.cert_types.specs.Query.{IsQuery, places_others, is_named, is_on_domains}
 use Rattle.cert_types.specs.Valid.{fit_fault, place_of}
 use Rattle.cert_types.proofs.QueryLaws.{query-parts}
 use Rattle.cert_types.proofs.Validity.{fit-clean, none_is}
@@ -23,7 +23,7 @@ pub query-rises : (book : BookView) (task : Task) → IsQuery book task → is_a
 query-rises book task query = (query-parts book task query).rises
 
 -- a station of the set is the tested one, which the fit names, or is in the last map
-has-each : (station : Option ℕ) (set : List ℕ) (last delta : List (ℕ × ℕ)) → has_others station set last ≡ true → is_named station delta ≡ true → (s : ℕ) → is_in set s ≡ true → has_station (overlaid last delta) s ≡ true
+has-each : (station : Option ℕ) (set : List ℕ) (last delta : List (ℕ × ℕ)) → places_others station set last ≡ true → is_named station delta ≡ true → (s : ℕ) → is_in set s ≡ true → has_station (overlaid last delta) s ≡ true
 has-each None set last delta others named s h = cc
 has-each (Some t) set last delta others named s h =
     elim (or_cases (s == t) (has_station last s) (list_all-at (λ u. (u == t) || has_station last u) set s others h)) [

@@ -14,17 +14,17 @@ use Rattle.rup_check.specs.declared.line.Line.{Line}
 use Rattle.cert_types.specs.declared.task.Task.{Task}
 use Rattle.cert_types.specs.declared.answer.Place.{Place}
 use Rattle.cert_types.specs.declared.answer.Place.TheVariants.{Kind, Count, Subset, LineAt}
-use Rattle.cert_types.specs.FirstLine.{first_line, does_follow, passes_both, lesser}
+use Rattle.cert_types.specs.FirstLine.{first_line, line_follows, meets_both, lesser}
 use Rattle.cert_types.specs.Refutes.{is_subset, is_proof_line, same_pair}
 use Rattle.cert_types.specs.Spent.{is_spent_line}
 use Rattle.cert_types.specs.Valid.{learns, proof_fault, spent_lines_fault, unless}
 use Rattle.cert_types.proofs.LineLemmas.{first-both}
 
 -- the lesser of the results of the two scans is the first invalid line
-pub first-checked : (other : List (List Lit) → Line → List Line → Bool) (vars vars2 : ℕ) (clauses formula : List (List Lit)) (lines : List Line) (one two both : Option ℕ) → vars ≡ vars2 → clauses ≡ formula → one ≡ first_line (does_follow vars) clauses 1 lines → two ≡ first_line other formula 1 lines → both ≡ lesser one two → both ≡ first_line (passes_both (does_follow vars2) other) formula 1 lines
+pub first-checked : (other : List (List Lit) → Line → List Line → Bool) (vars vars2 : ℕ) (clauses formula : List (List Lit)) (lines : List Line) (one two both : Option ℕ) → vars ≡ vars2 → clauses ≡ formula → one ≡ first_line (line_follows vars) clauses 1 lines → two ≡ first_line other formula 1 lines → both ≡ lesser one two → both ≡ first_line (meets_both (line_follows vars2) other) formula 1 lines
 first-checked other vars vars2 clauses formula lines one two both v f e g h =
-    let first : one ≡ first_line (does_follow vars2) formula 1 lines = e ∙ (λ i. first_line (does_follow (v i)) (f i) 1 lines) in
-    h ∙ (λ i. lesser (first i) (g i)) ∙ sym (first-both (does_follow vars2) other formula 1 lines)
+    let first : one ≡ first_line (line_follows vars2) formula 1 lines = e ∙ (λ i. first_line (line_follows (v i)) (f i) 1 lines) in
+    h ∙ (λ i. lesser (first i) (g i)) ∙ sym (first-both (line_follows vars2) other formula 1 lines)
 
 -- a learner's log of lines within the budget, over a subset: its first invalid line decides
 pub proof-counted : (book : BookView) (task : Task) (worker : Worker) (subset : List ℕ) (lines : List Line) → learns worker.kind ≡ true → 0 < length lines → length lines ≤ worker.budget → is_subset subset task.set ≡ true → option_map LineAt (first_line (is_proof_line (variables_in book subset)) (packing_formula book subset) 1 lines) ≡ proof_fault book task worker subset lines

@@ -11,7 +11,7 @@ use Rattle.rup_check.specs.declared.error.LogErr.TheVariants.{BadLine, NoMemory}
 use Rattle.rup_check.specs.Follows.{clauses_before, line_fault, line_or, lines_fault}
 use Rattle.rup_check.specs.Packed.{line_at, no_line}
 use Rattle.rup_check.proofs.Reading.{clauses-more}
-use Rattle.cert_types.specs.FirstLine.{first_line, does_follow, passes_both, lesser}
+use Rattle.cert_types.specs.FirstLine.{first_line, line_follows, meets_both, lesser}
 
 -- the first line that fails is at the first place or after it
 pub first-from : (test : List (List Lit) → Line → List Line → Bool) (clauses : List (List Lit)) (place : ℕ) (lines : List Line) (n : ℕ) → first_line test clauses place lines ≡ Some n → place ≤ n
@@ -33,14 +33,14 @@ lesser-second place None h = refl
 lesser-second place (Some n) h = ap Some (min-eq_right (h n refl))
 
 -- the first line that fails one of two tests is the lesser of the first that fails the one and the first that fails the other
-pub first-both : (one other : List (List Lit) → Line → List Line → Bool) (clauses : List (List Lit)) (place : ℕ) (lines : List Line) → first_line (passes_both one other) clauses place lines ≡ lesser (first_line one clauses place lines) (first_line other clauses place lines)
+pub first-both : (one other : List (List Lit) → Line → List Line → Bool) (clauses : List (List Lit)) (place : ℕ) (lines : List Line) → first_line (meets_both one other) clauses place lines ≡ lesser (first_line one clauses place lines) (first_line other clauses place lines)
 first-both one other clauses place [] = refl
 first-both one other clauses place (line ∷ lines) =
     let more : List (List Lit) = clauses ++ line.lits ∷ [] in
     let rest : (List (List Lit) → Line → List Line → Bool) → Option ℕ = λ test. first_line test more (place + 1) lines in
     let behind : (test : List (List Lit) → Line → List Line → Bool) (n : ℕ) → rest test ≡ Some n → place ≤ n = λ test n e. let later : place + 1 ≤ n = first-from test more (place + 1) lines n e in omega arith in
-    let go : (b c : Bool) → (if b && c then rest (passes_both one other) else Some place) ≡ lesser (if b then rest one else Some place) (if c then rest other else Some place) = λ b c. elim b as (λ b. (if b && c then rest (passes_both one other) else Some place) ≡ lesser (if b then rest one else Some place) (if c then rest other else Some place)) [
-      | true ↦ elim c as (λ c. (if c then rest (passes_both one other) else Some place) ≡ lesser (rest one) (if c then rest other else Some place)) [
+    let go : (b c : Bool) → (if b && c then rest (meets_both one other) else Some place) ≡ lesser (if b then rest one else Some place) (if c then rest other else Some place) = λ b c. elim b as (λ b. (if b && c then rest (meets_both one other) else Some place) ≡ lesser (if b then rest one else Some place) (if c then rest other else Some place)) [
+      | true ↦ elim c as (λ c. (if c then rest (meets_both one other) else Some place) ≡ lesser (rest one) (if c then rest other else Some place)) [
         | true ↦ first-both one other more (place + 1) lines
         | false ↦ sym (lesser-second place (rest one) (behind one))
       ]
@@ -87,7 +87,7 @@ following-or place None rest = refl
 following-or place (Some why) rest = refl
 
 -- the first line that does not follow is the one that a log's fault names
-pub first-following : (vars : ℕ) (clauses : List (List Lit)) (place : ℕ) (lines : List Line) → first_line (does_follow vars) clauses place lines ≡ option_map line_of (lines_fault vars clauses place lines)
+pub first-following : (vars : ℕ) (clauses : List (List Lit)) (place : ℕ) (lines : List Line) → first_line (line_follows vars) clauses place lines ≡ option_map line_of (lines_fault vars clauses place lines)
 unfolding lines_fault
 first-following vars clauses place [] = refl
 first-following vars clauses place (line ∷ lines) =

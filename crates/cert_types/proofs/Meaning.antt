@@ -1,4 +1,4 @@
--- For `laws::what_valid_means`: what a valid answer is, in both directions.
+-- For `laws::prove_valid_means`: what a valid answer is, in both directions.
 use Rattle.std.proofs.Common.{◌≡◌, ℕ, ◌+◌, Bool, true, false, not, ◌==◌, ◌&&◌, if◌then◌else◌, List, [], ◌∷◌, ◌++◌, length, Option, None, option_map, is_none, refl, ap, nat_lt, nat_le, eqb-true, eq-eqb, ltb-true, lt-ltb, leb-true, le-leb}
 use Rattle.std.proofs.lemmas.Bool.{and_parts, and_from, not-true, not_from_false}
 use Rattle.clause_db.specs.declared.lit.Lit.{Lit}
@@ -24,7 +24,7 @@ use Rattle.cert_types.specs.FirstLine.{first_line}
 use Rattle.cert_types.specs.Spent.{is_spent_line}
 use Rattle.cert_types.specs.Refutes.{is_dead, is_subset, is_proof_line}
 use Rattle.cert_types.specs.Valid.{answer_fault, learns, place_of, unless, IsValid, IsProof, IsSpentLog, IsSpentWalk}
-use Rattle.cert_types.specs.Walks.{first_move, start_map}
+use Rattle.cert_types.specs.Moves.{first_move, start_map}
 use Rattle.cert_types.proofs.Validity.{unless-parts, fit-clean, proof-follows, proof_line, some_line}
 use Rattle.cert_types.proofs.SpentLaws.{is-none, then-none, lines-spent, spent-lines, moves-spent, spent-moves}
 use Rattle.pack_defs.proofs.Words.{mapped-none}

@@ -7,7 +7,7 @@ use Rattle.pack_defs.proofs.Words.{list_any-map}
 use Rattle.assign_check.specs.Fault.{violation}
 use Rattle.cert_types.specs.declared.task.Task.{Task}
 use Rattle.cert_types.specs.Certificate.{IsTaskOf}
-use Rattle.cert_types.specs.Query.{IsQuery, has_channels, has_others, is_last_map, is_on_domains, is_query}
+use Rattle.cert_types.specs.Query.{IsQuery, has_channels, places_others, is_last_map, is_on_domains, is_query}
 use Rattle.cert_types.proofs.Validity.{none_is}
 
 pub record HasParts (book : BookView) (task : Task) : Type 0 where
@@ -15,15 +15,15 @@ pub record HasParts (book : BookView) (task : Task) : Type 0 where
   pub channels : has_channels book task.set ≡ true
   pub domains : is_on_domains book task.set task.last ≡ true
   pub clean : violation book task.last ≡ None
-  pub others : has_others task.station task.set task.last ≡ true
+  pub others : places_others task.station task.set task.last ≡ true
 
 pub query-parts : (book : BookView) (task : Task) → IsQuery book task → HasParts book task
 unfolding is_query
 query-parts book task q =
     let set = and_parts (is_ascending task.set) (has_channels book task.set && is_last_map book task) q.holds in
     let bare = and_parts (has_channels book task.set) (is_last_map book task) set.1 in
-    let on = and_parts (is_on_domains book task.set task.last) (is_none (violation book task.last) && has_others task.station task.set task.last) bare.1 in
-    let clean = and_parts (is_none (violation book task.last)) (has_others task.station task.set task.last) on.1 in
+    let on = and_parts (is_on_domains book task.set task.last) (is_none (violation book task.last) && places_others task.station task.set task.last) bare.1 in
+    let clean = and_parts (is_none (violation book task.last)) (places_others task.station task.set task.last) on.1 in
     record { rises = set.0; channels = bare.0; domains = on.0; clean = none_is (violation book task.last) clean.0; others = clean.1 }
 
 pub query-of : (book : BookView) (task : Task) → HasParts book task → IsQuery book task
@@ -32,8 +32,8 @@ query-of book task h = record {
   holds =
       and_from (is_ascending task.set) (has_channels book task.set && is_last_map book task) h.rises
       (and_from (has_channels book task.set) (is_last_map book task) h.channels
-      (and_from (is_on_domains book task.set task.last) (is_none (violation book task.last) && has_others task.station task.set task.last) h.domains
-      (and_from (is_none (violation book task.last)) (has_others task.station task.set task.last) (ap is_none h.clean) h.others)));
+      (and_from (is_on_domains book task.set task.last) (is_none (violation book task.last) && places_others task.station task.set task.last) h.domains
+      (and_from (is_none (violation book task.last)) (places_others task.station task.set task.last) (ap is_none h.clean) h.others)));
 }
 
 -- the set of a query ascends

@@ -9,7 +9,7 @@ use Rattle.clause_db.specs.Clause.{has_lit, same_lit, code_of}
 use Rattle.clause_db.proofs.Literals.{same_lit-refl, code-below}
 use Rattle.cnf_encode.proofs.PairLemmas.{list_all-get}
 use Rattle.rup_check.specs.declared.line.Line.{Line}
-use Rattle.rup_check.specs.Known.{is_lit_within}
+use Rattle.rup_check.specs.KnownLiterals.{is_lit_within}
 use Rattle.rup_check.proofs.Marking.{within-from}
 use Rattle.cert_types.specs.Fresh.{stands_within}
 use Rattle.cert_types.specs.Uses.{AreCounted, UsesView, are_used, count_of, is_used, one_more, times_in, times_of}

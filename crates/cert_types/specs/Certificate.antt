@@ -21,6 +21,6 @@ pub record IsTaskOf (book : BookView) (task : Task) : Type 0 where
   pub rises : IsTrue (is_ascending task.set)
 
 -- What a rejection says about the first fault of an answer. `Rejected` names the first fault, and `NoMemory` says nothing.
-abbrev pub Tells : CertifyWhy → Option Place → Type 0
-Tells (Rejected place) fault = fault ≡ Some place
-Tells NoMemory fault = ⊤
+abbrev pub ReportsPlace : CertifyWhy → Option Place → Type 0
+ReportsPlace (Rejected place) fault = fault ≡ Some place
+ReportsPlace NoMemory fault = ⊤

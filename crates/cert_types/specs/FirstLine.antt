@@ -14,20 +14,20 @@ first_line test clauses place (line ∷ lines) =
     if test clauses line lines then first_line test (clauses ++ line.lits ∷ []) (place + 1) lines else Some place
 
 -- Whether a line follows from the clauses and lines before it.
-abbrev pub does_follow : ℕ → List (List Lit) → Line → List Line → Bool
-does_follow vars clauses line rest = is_none (line_fault vars clauses line)
+abbrev pub line_follows : ℕ → List (List Lit) → Line → List Line → Bool
+line_follows vars clauses line rest = is_none (line_fault vars clauses line)
 
 -- Whether a line is empty exactly if it is the last, as in a refutation.
-abbrev pub ends_there : List (List Lit) → Line → List Line → Bool
-ends_there clauses line rest = if is_empty rest then is_empty_clause line.lits else not (is_empty_clause line.lits)
+abbrev pub is_empty_iff_last : List (List Lit) → Line → List Line → Bool
+is_empty_iff_last clauses line rest = if is_empty rest then is_empty_clause line.lits else not (is_empty_clause line.lits)
 
 -- Whether a line has a literal.
 abbrev pub has_literal : List (List Lit) → Line → List Line → Bool
 has_literal clauses line rest = not (is_empty_clause line.lits)
 
 -- Whether a line passes both tests.
-abbrev pub passes_both : (List (List Lit) → Line → List Line → Bool) → (List (List Lit) → Line → List Line → Bool) → List (List Lit) → Line → List Line → Bool
-passes_both one other clauses line rest = one clauses line rest && other clauses line rest
+abbrev pub meets_both : (List (List Lit) → Line → List Line → Bool) → (List (List Lit) → Line → List Line → Bool) → List (List Lit) → Line → List Line → Bool
+meets_both one other clauses line rest = one clauses line rest && other clauses line rest
 
 -- The lesser of two places, each of which may be missing.
 abbrev pub lesser : Option ℕ → Option ℕ → Option ℕ

@@ -20,15 +20,15 @@ is_on_domains book set entries = list_all (λ x. is_in set x.0 && is_in (domain_
 
 -- Whether each station of the set except the tested one is in the map. The test of the start, which tests no single station,
 -- passes.
-abbrev pub has_others : Option ℕ → List ℕ → List (ℕ × ℕ) → Bool
-has_others None set entries = true
-has_others (Some s) set entries = list_all (λ t. (t == s) || has_station entries t) set
+abbrev pub places_others : Option ℕ → List ℕ → List (ℕ × ℕ) → Bool
+places_others None set entries = true
+places_others (Some s) set entries = list_all (λ t. (t == s) || has_station entries t) set
 
 -- Whether the last map has stations of the set alone, on their domains, violates no pair, and has all of the set except the tested
 -- station.
 abbrev pub is_last_map : BookView → Task → Bool
 is_last_map book task =
-    is_on_domains book task.set task.last && (is_none (violation book task.last) && has_others task.station task.set task.last)
+    is_on_domains book task.set task.last && (is_none (violation book task.last) && places_others task.station task.set task.last)
 
 -- Whether the set ascends, each of its stations has a channel, and the last map is right for the set.
 unfoldable pub is_query : BookView → Task → Bool

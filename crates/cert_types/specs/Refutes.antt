@@ -8,7 +8,7 @@ use Rattle.pack_defs.specs.Lists.{is_in, is_ascending, is_only}
 use Rattle.cnf_encode.specs.Formula.{packing_formula, variables_in}
 use Rattle.rup_check.specs.declared.line.Line.{Line}
 use Rattle.rup_check.specs.Follows.{Follows, ends_empty}
-use Rattle.cert_types.specs.FirstLine.{does_follow, ends_there, passes_both}
+use Rattle.cert_types.specs.FirstLine.{line_follows, is_empty_iff_last, meets_both}
 
 -- Whether the list ascends and has only stations of the set.
 abbrev pub is_subset : List ℕ → List ℕ → Bool
@@ -26,7 +26,7 @@ is_dead book set p =
 
 -- Whether a line of a proof follows, and is empty exactly if it is the last.
 abbrev pub is_proof_line : ℕ → List (List Lit) → Line → List Line → Bool
-is_proof_line vars = passes_both (does_follow vars) ends_there
+is_proof_line vars = meets_both (line_follows vars) is_empty_iff_last
 
 -- A certificate that a set does not fit: a log over the clauses of a subset (a refutation as in LRAT, whose last line alone is
 -- empty), a dead pair, or a station without a channel.

@@ -3,7 +3,7 @@ use Rattle.std.specs.Prelude.{ℕ, ◌≡◌, ◌+◌, ◌-◌, ◌^◌, Bool, t
 use Rattle.std.specs.List.{count_by, list_all, sum_by}
 use Rattle.clause_db.specs.declared.lit.Lit.{Lit}
 use Rattle.clause_db.specs.Clause.{same_lit, code_of}
-use Rattle.rup_check.specs.Known.{is_lit_within}
+use Rattle.rup_check.specs.KnownLiterals.{is_lit_within}
 use Rattle.rup_check.specs.declared.line.Line.{Line}
 
 -- The number of variables, and a count for each literal (by its code).

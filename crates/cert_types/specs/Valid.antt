@@ -24,7 +24,7 @@ use Rattle.cert_types.specs.declared.answer.Place.TheVariants.{Kind, Count, Subs
 use Rattle.cert_types.specs.FirstLine.{first_line}
 use Rattle.cert_types.specs.Spent.{is_spent_line, AreSpentLines}
 use Rattle.cert_types.specs.Refutes.{is_dead, is_subset, is_proof_line}
-use Rattle.cert_types.specs.Walks.{AreSpentMoves, first_move, start_map}
+use Rattle.cert_types.specs.Moves.{AreSpentMoves, first_move, start_map}
 
 -- Whether a worker of this kind learns clauses. Any other walks over maps.
 abbrev pub learns : WorkerKind → Bool

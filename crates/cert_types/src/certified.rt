@@ -37,7 +37,7 @@ impl Model for Certified {
 impl Certified {
     /// Returns the answer as a certified one, unchecked. The precondition says that the answer is valid, as a solver's contract
     /// ensures.
-    pub fn of_valid(book: &Book, task: &Task, worker: &Worker, answer: Answer) -> Certified
+    pub fn from_valid(book: &Book, task: &Task, worker: &Worker, answer: Answer) -> Certified
         requires { IsValid book.now task.now worker.now answer }
         ensures { result ≡ record { book = book.now; task = task.now; worker = worker.now; answer = answer } }
     {

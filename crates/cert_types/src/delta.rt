@@ -17,7 +17,7 @@ pub fn delta(alloc: Global, last: &ChannelMap, map: &ChannelMap) -> Result<Chann
     map.keeps_order();
     let mut entries = Vec::new(alloc);
     for x in map.entries() {
-        if !stands(last, *x) {
+        if !is_on_channel(last, *x) {
             entries.push(*x)?;
         }
     }
@@ -25,7 +25,7 @@ pub fn delta(alloc: Global, last: &ChannelMap, map: &ChannelMap) -> Result<Chann
 }
 
 // Whether the map has the entry.
-fn stands(map: &ChannelMap, x: (u32, u8)) -> bool
+fn is_on_channel(map: &ChannelMap, x: (u32, u8)) -> bool
     requires { IsAscending map.now }
     ensures { result ≡ has_entry map.now x }
 {

@@ -2,7 +2,7 @@
 
 ghost use Rattle.std.specs.Prelude.{◌≡◌, IfOk, List};
 ghost use Rattle.clause_db.specs.declared.lit.Lit.{Lit};
-ghost use Rattle.cert_types.specs.FirstLine.{does_follow, ends_there, first_line, has_literal, lesser};
+ghost use Rattle.cert_types.specs.FirstLine.{line_follows, is_empty_iff_last, first_line, has_literal, lesser};
 
 use clause_db::list::ClauseList;
 use rup_check::LogErr;
@@ -18,7 +18,7 @@ pub(crate) fn first_not_following(
     clauses: &ClauseList,
     log: &Log,
 ) -> Result<Option<u64>, NoMemory>
-    ensures { IfOk result (λ place. place ≡ first_line (does_follow clauses.now.vars) clauses.now.list 1 log.now.lines) }
+    ensures { IfOk result (λ place. place ≡ first_line (line_follows clauses.now.vars) clauses.now.list 1 log.now.lines) }
 {
     match check_log(alloc, clauses, log) {
         Ok(()) => Ok(None),
@@ -30,7 +30,7 @@ pub(crate) fn first_not_following(
 /// Returns the number, from 1, of the first line that is empty before the end, or is last and not empty. No clause is needed for
 /// this.
 pub(crate) fn first_misplaced(lines: &Lines) -> Option<u64>
-    ensures { (clauses : List (List Lit)) → result ≡ first_line ends_there clauses 1 lines.now }
+    ensures { (clauses : List (List Lit)) → result ≡ first_line is_empty_iff_last clauses 1 lines.now }
 {
     let count = lines.len();
     for i in 0..count {

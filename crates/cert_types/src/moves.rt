@@ -5,7 +5,7 @@ ghost use Rattle.std.specs.Bool.{OnTrue};
 ghost use Rattle.pack_defs.specs.ChannelMap.{put};
 ghost use Rattle.pack_defs.specs.Lists.{has_entry};
 ghost use Rattle.cert_types.specs.Certificate.{IsTaskOf};
-ghost use Rattle.cert_types.specs.Walks.{first_move, is_in_trouble, is_move, start_map, violates_some};
+ghost use Rattle.cert_types.specs.Moves.{first_move, has_violation, is_move, start_map, violates_some};
 
 use crate::start::start_map;
 use crate::task::Task;
@@ -53,7 +53,7 @@ fn is_move(book: &Book, map: &Assignment, x: (u32, u8)) -> bool
     requires { book.now ≡ map.now.book }
     ensures { result ≡ is_move book.now map.now.entries x }
 {
-    is_in_trouble(book, map, x.0) && (book.domain(x.0).contains(&x.1) && !stands(map, x))
+    has_violation(book, map, x.0) && (book.domain(x.0).contains(&x.1) && !is_on_channel(map, x))
 }
 
 // Whether some pair is violated.
@@ -64,15 +64,15 @@ fn violates_some(map: &Assignment) -> bool
 }
 
 // Whether some pair of the station is violated.
-fn is_in_trouble(book: &Book, map: &Assignment, station: u32) -> bool
+fn has_violation(book: &Book, map: &Assignment, station: u32) -> bool
     requires { book.now ≡ map.now.book }
-    ensures { result ≡ is_in_trouble book.now map.now.entries station }
+    ensures { result ≡ has_violation book.now map.now.entries station }
 {
     map.violations_of(book, station) > 0
 }
 
 // Whether the map has the station on this channel.
-fn stands(map: &Assignment, x: (u32, u8)) -> bool
+fn is_on_channel(map: &Assignment, x: (u32, u8)) -> bool
     ensures { result ≡ has_entry map.now.entries x }
 {
     map.keeps_order();

@@ -34,7 +34,7 @@ pub enum Attempt {
 }
 
 /// Polls once. Returns the number of the current query if it is not `number`.
-pub fn polled<P: Poll>(poll: &mut P, number: u64) -> Option<u64>
+pub fn poll_moved<P: Poll>(poll: &mut P, number: u64) -> Option<u64>
     ensures moved { IfSome result (λ now. (P.last poll.new ≡ now) × (now ≢ number)) }
     ensures goes { P.goes poll.old poll.new }
 {
@@ -45,7 +45,7 @@ pub fn polled<P: Poll>(poll: &mut P, number: u64) -> Option<u64>
     Some(now)
 }
 
-/// Polls before the first step of a search and then after every `between` steps, as `polled` does. `steps` counts the steps made so
+/// Polls before the first step of a search and then after every `between` steps, as `poll_moved` does. `steps` counts the steps made so
 /// far.
 pub fn moved<P: Poll>(poll: &mut P, number: u64, steps: usize, between: usize) -> Option<u64>
     requires { 1 ≤ between }
@@ -55,5 +55,5 @@ pub fn moved<P: Poll>(poll: &mut P, number: u64, steps: usize, between: usize) -
     if steps % between != 0 {
         return None;
     }
-    polled(poll, number)
+    poll_moved(poll, number)
 }

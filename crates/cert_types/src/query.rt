@@ -7,7 +7,7 @@ ghost use Rattle.pack_defs.specs.Book.{domain_of};
 ghost use Rattle.pack_defs.specs.Lists.{has_station, is_ascending, is_in};
 ghost use Rattle.assign_check.specs.Fault.{violation};
 ghost use Rattle.cert_types.specs.Certificate.{IsTaskOf};
-ghost use Rattle.cert_types.specs.Query.{IsQuery, has_channels, has_others, is_last_map, is_on_domains, is_query};
+ghost use Rattle.cert_types.specs.Query.{IsQuery, has_channels, places_others, is_last_map, is_on_domains, is_query};
 
 use crate::subset::ascends;
 use crate::task::Task;
@@ -55,25 +55,25 @@ fn is_last_map(book: &Book, task: &Task) -> bool
 {
     is_on_domains(book, task.set.as_slice(), task.last.entries())
         && violation(book, &task.last).is_none()
-        && has_others(task.station, task.set.as_slice(), &task.last)
+        && places_others(task.station, task.set.as_slice(), &task.last)
 }
 
 // Whether each station of the set except the tested one is in the map. If none is tested, any map passes.
-fn has_others(tested: Option<u32>, set: &[u32], map: &ChannelMap) -> bool
-    ensures { result ≡ has_others tested set.now map.now }
+fn places_others(tested: Option<u32>, set: &[u32], map: &ChannelMap) -> bool
+    ensures { result ≡ places_others tested set.now map.now }
 {
     match tested {
-        Some(s) => has_all_but(s, set, map),
+        Some(s) => places_all_but(s, set, map),
         None => true,
     }
 }
 
 // Whether each station of the set except this one is in the map.
-fn has_all_but(tested: u32, set: &[u32], map: &ChannelMap) -> bool
+fn places_all_but(tested: u32, set: &[u32], map: &ChannelMap) -> bool
     ensures { result ≡ list_all (λ t. (t == tested) || has_station map.now t) set.now }
 {
     for t in set {
-        if !is_there(tested, map, *t) {
+        if !is_tested_or_placed(tested, map, *t) {
             return false;
         }
     }
@@ -81,7 +81,7 @@ fn has_all_but(tested: u32, set: &[u32], map: &ChannelMap) -> bool
 }
 
 // Whether a station is this one or is in the map.
-fn is_there(tested: u32, map: &ChannelMap, station: u32) -> bool
+fn is_tested_or_placed(tested: u32, map: &ChannelMap, station: u32) -> bool
     ensures { result ≡ ((station == tested) || has_station map.now station) }
 {
     station == tested || map.get(station).is_some()

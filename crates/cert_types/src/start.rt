@@ -4,7 +4,7 @@ ghost use Rattle.std.specs.Prelude.{◌≡◌, IfOk, unwrap_or};
 ghost use Rattle.pack_defs.specs.Book.{domain_of};
 ghost use Rattle.pack_defs.specs.ChannelMap.{IsAscending, channel_of};
 ghost use Rattle.cert_types.specs.Certificate.{IsTaskOf};
-ghost use Rattle.cert_types.specs.Walks.{least_of, start_map};
+ghost use Rattle.cert_types.specs.Moves.{least_of, start_map};
 
 use crate::task::Task;
 use pack_defs::book::Book;

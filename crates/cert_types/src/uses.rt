@@ -3,12 +3,12 @@
 
 ghost use Rattle.std.specs.Prelude.{ℕ, ◌≡◌, ◌+◌, ◌-◌, ◌^◌, IfOk, min, true};
 ghost use Rattle.clause_db.specs.declared.lit.Lit.{Lit};
-ghost use Rattle.rup_check.specs.Known.{is_lit_within};
+ghost use Rattle.rup_check.specs.KnownLiterals.{is_lit_within};
 ghost use Rattle.cert_types.specs.Uses.{AreCounted, are_used, count_of, one_more, times_in};
 
 use clause_db::lit::Lit;
 use rup_check::cursors::Literals;
-use rup_check::known::{code, within};
+use rup_check::known_literals::{code, within};
 use rup_check::lines::Lines;
 use std::alloc::{AllocError as NoMemory, Global};
 use std::marker::Model;

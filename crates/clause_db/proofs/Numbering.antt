@@ -3,9 +3,9 @@ use Rattle.std.proofs.Common.{◌≡◌, ℕ, ◌-◌, ◌<◌, ◌≤◌, List,
 use Rattle.clause_db.specs.declared.lit.Lit.{Lit}
 use Rattle.clause_db.specs.Clause.{clause_at}
 
-pub clause_at-nought : (clauses : List (List Lit)) → clause_at clauses 0 ≡ None
-clause_at-nought [] = refl
-clause_at-nought (c ∷ cs) = clause_at-nought cs
+pub clause_at-zero : (clauses : List (List Lit)) → clause_at clauses 0 ≡ None
+clause_at-zero [] = refl
+clause_at-zero (c ∷ cs) = clause_at-zero cs
 
 -- a number above the length of the first list counts on in the second
 pub clause_at-after : (xs ys : List (List Lit)) (n : ℕ) → length xs < n → clause_at (xs ++ ys) n ≡ clause_at ys (n - length xs)

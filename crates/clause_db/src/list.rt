@@ -64,7 +64,7 @@ impl ClauseList {
         let at = (i - 1) as usize;
         let from = start_of(&self.ends, at);
         let end = self.ends[at];
-        part_of(&self.lits, from, end)
+        lits_between(&self.lits, from, end)
     }
 
     /// Appends a clause. If memory runs out, the list stays as it was.
@@ -94,7 +94,7 @@ fn start_of(ends: &[usize], at: usize) -> usize
 }
 
 // Returns the literals from one place up to another.
-fn part_of(lits: &[Lit], from: usize, end: usize) -> &[Lit]
+fn lits_between(lits: &[Lit], from: usize, end: usize) -> &[Lit]
     requires in_order { from ≤ end }
     requires within { end ≤ length lits.now }
     ensures { result.now ≡ slice_range lits.now from end }

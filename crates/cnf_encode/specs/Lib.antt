@@ -2,4 +2,4 @@ pub mod Formula
 pub mod ByStation
 pub mod Decode
 pub mod Examples
-pub mod FormulaLaws
+pub mod Laws

@@ -18,11 +18,11 @@ pub fn clause_count(book: &Book, set: &[u32]) -> u64
     ensures count { result ≡ length (packing_formula book.now set.now) }
     ensures few { result + 2 ^ 32 ≤ 2 ^ 63 }
 {
-    set.len() as u64 + no_two_count(book, set) + pair_count(book, set)
+    set.len() as u64 + at_most_one_count(book, set) + pair_count(book, set)
 }
 
 // Returns how many clauses say that no station of the set is on two channels.
-fn no_two_count(book: &Book, set: &[u32]) -> u64
+fn at_most_one_count(book: &Book, set: &[u32]) -> u64
     requires { IsTrue (is_ascending set.now) }
     ensures count { result ≡ length (flat_map (λ s. at_most_one (station_variables book.now set.now s)) set.now) }
     ensures few { result ≤ 32768 * MOST_STATIONS }
@@ -31,13 +31,13 @@ fn no_two_count(book: &Book, set: &[u32]) -> u64
     book.keeps_limit();
     let mut count = 0;
     for i in 0..set.len() {
-        count += no_two_of(channels_of(book, set[i]));
+        count += station_at_most_one_count(channels_of(book, set[i]));
     }
     count
 }
 
 // Returns how many clauses say that no two of a station's variables are true: one for each two of its channels.
-fn no_two_of(channels: &[u8]) -> u64
+fn station_at_most_one_count(channels: &[u8]) -> u64
     requires { IsTrue (is_ascending channels.now) }
     ensures count { (variable : ℕ → ℕ) → result ≡ length (at_most_one (map variable channels.now)) }
     ensures few { (result ≤ 128 * length channels.now) × (length channels.now ≤ 256) }

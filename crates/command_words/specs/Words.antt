@@ -8,7 +8,7 @@ use Rattle.clap.specs.Simple.{on_top}
 use Rattle.clap.specs.Walk.{is_empty}
 use Rattle.clap.specs.ValueTests.{is_unsigned_in}
 use Rattle.clap.specs.declared.builder.value_parser.ValueParser.TheVariants.{Unsigned}
-use Rattle.scenario_make.specs.declared.limits.TheConstants.{MOST_MADE}
+use Rattle.scenario_make.specs.declared.limits.TheConstants.{MOST_GENERATED}
 use Rattle.command_words.specs.declared.batch_words.BatchArgs.{BatchArgs}
 use Rattle.command_words.specs.declared.make_words.MakeArgs.{MakeArgs}
 use Rattle.command_words.specs.declared.proof_words.ExportArgs.{ExportArgs}
@@ -177,7 +177,7 @@ seed_limit = 18446744073709551615
 
 -- The most stations of a generated auction.
 abbrev pub size_limit : ℕ
-size_limit = MOST_MADE
+size_limit = MOST_GENERATED
 
 -- The greatest number of a step.
 abbrev pub step_limit : ℕ
@@ -208,32 +208,32 @@ abbrev pub import_app : App
 import_app = with_required (step_app (codes "import")) (codes "LRAT" ∷ codes "RESULT" ∷ codes "NEWTRANSCRIPT" ∷ [])
 
 -- The program without its commands: it has a version, and a command is required.
-abbrev pub bare_app : App
-bare_app = on_top (λ s. record s { has_version = true; subcommand_required = true }) (new_app (codes "repack"))
+abbrev pub app_without_commands : App
+app_without_commands = on_top (λ s. record s { has_version = true; subcommand_required = true }) (new_app (codes "repack"))
 
 -- The program with the commands that read an auction's files and take no step.
-abbrev pub reading_app : App
-reading_app = with_subcommand (with_subcommand (with_subcommand bare_app run_app.top) check_app.top) verify_app.top
+abbrev pub app_with_reading : App
+app_with_reading = with_subcommand (with_subcommand (with_subcommand app_without_commands run_app.top) check_app.top) verify_app.top
 
 -- The same with the commands of a live auction.
-abbrev pub live_reading_app : App
-live_reading_app = with_subcommand (with_subcommand reading_app live_app.top) verify_live_app.top
+abbrev pub app_with_live_reading : App
+app_with_live_reading = with_subcommand (with_subcommand app_with_reading live_app.top) verify_live_app.top
 
 -- The same with the command that continues an auction.
-abbrev pub resuming_app : App
-resuming_app = with_subcommand live_reading_app resume_app.top
+abbrev pub app_with_resume : App
+app_with_resume = with_subcommand app_with_live_reading resume_app.top
 
 -- The same with the command that finds the least top channel.
-abbrev pub seeking_app : App
-seeking_app = with_subcommand resuming_app seek_app.top
+abbrev pub app_with_seek : App
+app_with_seek = with_subcommand app_with_resume seek_app.top
 
 -- The same with the command that runs many auctions.
-abbrev pub batching_app : App
-batching_app = with_subcommand seeking_app batch_app.top
+abbrev pub app_with_batch : App
+app_with_batch = with_subcommand app_with_seek batch_app.top
 
 -- The program with all its commands.
 abbrev pub program_app : App
-program_app = with_subcommand (with_subcommand (with_subcommand batching_app make_app.top) export_app.top) import_app.top
+program_app = with_subcommand (with_subcommand (with_subcommand app_with_batch make_app.top) export_app.top) import_app.top
 
 -- ---- the command that was parsed
 
@@ -381,8 +381,8 @@ unfoldable pub repeated_output : RunNames → Option (List ℕ)
 repeated_output names = find (λ name. is_repeated_in name names) (output_names names)
 
 -- The names of the files that `make` stores, in the order of its arguments.
-abbrev pub made_names : MakeNames → List (List ℕ)
-made_names names = names.outputs.domains ∷ names.outputs.rows ∷ names.outputs.scenario ∷ []
+abbrev pub make_output_names : MakeNames → List (List ℕ)
+make_output_names names = names.outputs.domains ∷ names.outputs.rows ∷ names.outputs.scenario ∷ []
 
 -- Whether the name is more than once among these.
 abbrev pub is_repeated_among : List (List ℕ) → List ℕ → Bool
@@ -390,7 +390,7 @@ is_repeated_among given name = nat_lt 1 (count_by (bytes_eq name) given)
 
 -- The first name of `make` that is given more than once.
 unfoldable pub repeated_made : MakeNames → Option (List ℕ)
-repeated_made names = find (is_repeated_among (made_names names)) (made_names names)
+repeated_made names = find (is_repeated_among (make_output_names names)) (make_output_names names)
 
 -- The names of the files of an auction that was carried out, in the order of the arguments.
 abbrev pub shown_names : VerifyNames → List (List ℕ)
@@ -423,16 +423,16 @@ repeated_resume names = find (is_repeated_among (resumed_names names)) (output_n
 
 -- The names of the files that `resume` reads, as those of an auction that was carried out; the beginning of a transcript takes the
 -- transcript's place.
-abbrev pub begun_names : ResumeNames → VerifyNames
-begun_names names = record { inputs = names.run_files.inputs; transcript = names.prefix }
+abbrev pub resume_input_names : ResumeNames → VerifyNames
+resume_input_names names = record { inputs = names.run_files.inputs; transcript = names.prefix }
 
 -- The names of the files of `seek`, in the order of its arguments.
-abbrev pub sought_names : SeekNames → List (List ℕ)
-sought_names names = names.domains ∷ names.rows ∷ names.scenario ∷ names.channels ∷ []
+abbrev pub seek_file_names : SeekNames → List (List ℕ)
+seek_file_names names = names.domains ∷ names.rows ∷ names.scenario ∷ names.channels ∷ []
 
 -- The name of the file that `seek` stores, if it is given more than once.
 unfoldable pub repeated_seek : SeekNames → Option (List ℕ)
-repeated_seek names = find (is_repeated_among (sought_names names)) (names.channels ∷ [])
+repeated_seek names = find (is_repeated_among (seek_file_names names)) (names.channels ∷ [])
 
 -- The input files of `seek`; there is no owners' file among them.
 abbrev pub seek_inputs : SeekNames → InputNames
@@ -441,8 +441,8 @@ seek_inputs names = record { domains = names.domains; rows = names.rows; scenari
 -- ---- the code's values, as these definitions see them
 
 -- The names of the input files in the code's value.
-abbrev pub inputs_seen : InputArgs → InputNames
-inputs_seen args = record {
+abbrev pub inputs_view : InputArgs → InputNames
+inputs_view args = record {
   domains = args.domains.now;
   rows = args.rows.now;
   scenario = args.scenario.now;
@@ -450,34 +450,34 @@ inputs_seen args = record {
 }
 
 -- The names of the files of `run` or `live` in the code's value.
-abbrev pub names_seen : RunArgs → RunNames
-names_seen args = record {
-  inputs = inputs_seen args.inputs;
+abbrev pub run_names_view : RunArgs → RunNames
+run_names_view args = record {
+  inputs = inputs_view args.inputs;
   result = args.result.now;
   channels = args.channels.now;
   transcript = args.transcript.now;
 }
 
 -- The names of the files of `verify` or `verify-live` in the code's value.
-abbrev pub verify_seen : VerifyArgs → VerifyNames
-verify_seen args = record { inputs = inputs_seen args.inputs; transcript = args.transcript.now }
+abbrev pub verify_view : VerifyArgs → VerifyNames
+verify_view args = record { inputs = inputs_view args.inputs; transcript = args.transcript.now }
 
 -- The names of the files of `resume` in the code's value.
-abbrev pub resume_seen : ResumeArgs → ResumeNames
-resume_seen args = record { run_files = names_seen args.run_files; prefix = args.prefix.now }
+abbrev pub resume_view : ResumeArgs → ResumeNames
+resume_view args = record { run_files = run_names_view args.run_files; prefix = args.prefix.now }
 
 -- The arguments of `make` in the code's value.
-abbrev pub make_seen : MakeArgs → MakeNames
-make_seen args = record { seed = args.seed; size = args.size; outputs = inputs_seen args.outputs }
+abbrev pub make_view : MakeArgs → MakeNames
+make_view args = record { seed = args.seed; size = args.size; outputs = inputs_view args.outputs }
 
 -- The arguments of `export` in the code's value.
-abbrev pub export_seen : ExportArgs → ExportNames
-export_seen args = record { shown = verify_seen args.shown; step = args.step; formula = args.formula.now }
+abbrev pub export_view : ExportArgs → ExportNames
+export_view args = record { shown = verify_view args.shown; step = args.step; formula = args.formula.now }
 
 -- The arguments of `import` in the code's value.
-abbrev pub import_seen : ImportArgs → ImportNames
-import_seen args = record {
-  shown = verify_seen args.shown;
+abbrev pub import_view : ImportArgs → ImportNames
+import_view args = record {
+  shown = verify_view args.shown;
   step = args.step;
   proof = args.proof.now;
   result = args.result.now;
@@ -485,8 +485,8 @@ import_seen args = record {
 }
 
 -- The names of the files of `seek` in the code's value.
-abbrev pub seek_seen : SeekArgs → SeekNames
-seek_seen args = record {
+abbrev pub seek_view : SeekArgs → SeekNames
+seek_view args = record {
   domains = args.domains.now;
   rows = args.rows.now;
   scenario = args.scenario.now;
@@ -494,20 +494,20 @@ seek_seen args = record {
 }
 
 -- The names of the files of `batch` in the code's value.
-abbrev pub batch_seen : BatchArgs → BatchNames
-batch_seen args = record { domains = args.domains.now; rows = args.rows.now; list = args.list.now }
+abbrev pub batch_view : BatchArgs → BatchNames
+batch_view args = record { domains = args.domains.now; rows = args.rows.now; list = args.list.now }
 
 -- The command in the code's value.
-abbrev pub command_seen : CommandArgs → Command
-command_seen (Run args) = run (names_seen args)
-command_seen (Check args) = check (inputs_seen args)
-command_seen (Verify args) = verify (verify_seen args)
-command_seen (Resume args) = resume (resume_seen args)
-command_seen (Seek args) = seek (seek_seen args)
-command_seen (Batch args) = batch (batch_seen args)
-command_seen (Make args) = make (make_seen args)
-command_seen (Export args) = export (export_seen args)
-command_seen (Import args) = import (import_seen args)
+abbrev pub command_view : CommandArgs → Command
+command_view (Run args) = run (run_names_view args)
+command_view (Check args) = check (inputs_view args)
+command_view (Verify args) = verify (verify_view args)
+command_view (Resume args) = resume (resume_view args)
+command_view (Seek args) = seek (seek_view args)
+command_view (Batch args) = batch (batch_view args)
+command_view (Make args) = make (make_view args)
+command_view (Export args) = export (export_view args)
+command_view (Import args) = import (import_view args)
 
 -- Whether the fault is that the words are rejected, not that memory ran out.
 abbrev pub IsRefused : WordsFault → Type 0

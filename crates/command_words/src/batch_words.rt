@@ -4,7 +4,7 @@ ghost use Rattle.std.specs.Prelude.{◌≡◌, IfOk, false, option_map};
 ghost use Rattle.clap.specs.Words.{app_of, found_of, rows_of};
 ghost use Rattle.clap.specs.declared.builder.command.Command.TheViews.{out-Command};
 ghost use Rattle.command_words.specs.Words.{inputs_with};
-ghost use Rattle.command_words.specs.Words.{batch_app, batch_names, batch_seen, inputs_seen};
+ghost use Rattle.command_words.specs.Words.{batch_app, batch_names, batch_view, inputs_view};
 
 use crate::file_args::{DOMAINS, FileArg, ROWS, file_command};
 use crate::run_words::{InputArgs, value_of};
@@ -26,7 +26,7 @@ impl<'a> BatchArgs<'a> {
     /// Returns the input files of one auction: the constraint files, and the scenario of this name. Before the scenarios are read,
     /// callers pass the list's name.
     pub fn inputs_with(&self, scenario: &'a str) -> InputArgs<'a>
-        ensures { inputs_seen result ≡ inputs_with (batch_seen self.now) scenario.now }
+        ensures { inputs_view result ≡ inputs_with (batch_view self.now) scenario.now }
     {
         InputArgs {
             domains: self.domains,
@@ -50,7 +50,7 @@ pub(crate) fn batch_command<'a>(alloc: Global) -> Result<Command<'a>, AllocError
 }
 
 pub(crate) fn batch_args<'a>(matches: &ArgMatches<'a>) -> Option<BatchArgs<'a>>
-    ensures { option_map batch_seen result ≡ batch_names (rows_of (found_of matches.now)) }
+    ensures { option_map batch_view result ≡ batch_names (rows_of (found_of matches.now)) }
 {
     let domains = value_of(matches, "DOMAINS")?;
     let rows = value_of(matches, "ROWS")?;

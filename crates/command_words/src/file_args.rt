@@ -53,7 +53,7 @@ pub(crate) const TRANSCRIPT: FileArg<'static> = FileArg {
 };
 
 // The transcript of an auction that was carried out.
-pub(crate) const SHOWN: FileArg<'static> = FileArg {
+pub(crate) const VERIFIED_TRANSCRIPT: FileArg<'static> = FileArg {
     id: "TRANSCRIPT",
     help: "The transcript of an auction of these inputs",
 };

@@ -3,13 +3,13 @@
 ghost use Rattle.std.specs.Prelude.{◌≡◌, IfOk, false, option_map};
 ghost use Rattle.clap.specs.Words.{app_of, found_of, rows_of, rule_of};
 ghost use Rattle.clap.specs.declared.builder.command.Command.TheViews.{out-Command};
-ghost use Rattle.command_words.specs.Words.{is_repeated_among, made_names, make_app, make_names, make_seen, number_rule, number_within, numbers_app, repeated_made, seed_limit};
+ghost use Rattle.command_words.specs.Words.{is_repeated_among, make_output_names, make_app, make_names, make_view, number_rule, number_within, numbers_app, repeated_made, seed_limit};
 
 use crate::file_args::{FileArg, required, with_files};
 use crate::run_words::{InputArgs, input_args, times_in, value_of};
 use clap::builder::ValueParser;
 use clap::{Arg, ArgMatches, Command};
-use scenario_make::limits::MOST_MADE;
+use scenario_make::limits::MOST_GENERATED;
 use std::alloc::{AllocError, Global};
 
 /// The arguments of `make`, as given on the command line.
@@ -28,7 +28,7 @@ impl<'a> MakeArgs<'a> {
     /// and `./a` differ.
     #[tactic(auto, unfolding(crate::specs::Words::repeated_made))]
     pub fn given_twice(&self) -> Option<&'a str>
-        ensures { option_map (λ name. name.now) result ≡ repeated_made (make_seen self.now) }
+        ensures { option_map (λ name. name.now) result ≡ repeated_made (make_view self.now) }
     {
         let outputs = self.outputs;
         if self.is_repeated(outputs.domains) {
@@ -44,7 +44,7 @@ impl<'a> MakeArgs<'a> {
 
     // Whether this name is given more than once.
     fn is_repeated(&self, name: &str) -> bool
-        ensures { result ≡ is_repeated_among (made_names (make_seen self.now)) name.now }
+        ensures { result ≡ is_repeated_among (make_output_names (make_view self.now)) name.now }
     {
         let outputs = self.outputs;
         let given = [outputs.domains, outputs.rows, outputs.scenario];
@@ -84,7 +84,7 @@ fn numbers_command<'a>(alloc: Global) -> Result<Command<'a>, AllocError>
             alloc,
             "SIZE",
             1,
-            u64::from(MOST_MADE),
+            u64::from(MOST_GENERATED),
             "How many stations it has, 1 to 4096",
         ))
 }
@@ -135,10 +135,10 @@ pub(crate) fn count_in(text: &str, most: u32) -> Option<u32>
 }
 
 pub(crate) fn make_args<'a>(matches: &ArgMatches<'a>) -> Option<MakeArgs<'a>>
-    ensures { option_map make_seen result ≡ make_names (rows_of (found_of matches.now)) }
+    ensures { option_map make_view result ≡ make_names (rows_of (found_of matches.now)) }
 {
     let seed = seed_in(value_of(matches, "SEED")?)?;
-    let size = count_in(value_of(matches, "SIZE")?, MOST_MADE)?;
+    let size = count_in(value_of(matches, "SIZE")?, MOST_GENERATED)?;
     let outputs = input_args(matches)?;
     Some(MakeArgs {
         seed,

@@ -3,9 +3,11 @@
 ghost use Rattle.std.specs.Prelude.{◌≡◌, IfOk, false, option_map};
 ghost use Rattle.clap.specs.Words.{app_of, found_of, rows_of};
 ghost use Rattle.clap.specs.declared.builder.command.Command.TheViews.{out-Command};
-ghost use Rattle.command_words.specs.Words.{export_app, export_names, export_seen, exported_names, import_app, import_names, import_seen, imported_names, is_repeated_among, repeated_export, repeated_import, step_app, step_named};
+ghost use Rattle.command_words.specs.Words.{export_app, export_names, export_view, exported_names, import_app, import_names, import_view, imported_names, is_repeated_among, repeated_export, repeated_import, step_app, step_named};
 
-use crate::file_args::{DOMAINS, FileArg, ROWS, SCENARIO, SHOWN, file_command, with_files};
+use crate::file_args::{
+    DOMAINS, FileArg, ROWS, SCENARIO, VERIFIED_TRANSCRIPT, file_command, with_files,
+};
 use crate::make_words::{count_in, number};
 use crate::run_words::{VerifyArgs, times_in, value_of, verify_args};
 use clap::{ArgMatches, Command};
@@ -42,7 +44,7 @@ impl<'a> ExportArgs<'a> {
     /// differ. Two names of files to read may be equal.
     #[tactic(auto, unfolding(crate::specs::Words::repeated_export))]
     pub fn given_twice(&self) -> Option<&'a str>
-        ensures { option_map (λ name. name.now) result ≡ repeated_export (export_seen self.now) }
+        ensures { option_map (λ name. name.now) result ≡ repeated_export (export_view self.now) }
     {
         if self.is_repeated(self.formula) {
             Some(self.formula)
@@ -53,7 +55,7 @@ impl<'a> ExportArgs<'a> {
 
     // Whether this name is given more than once.
     fn is_repeated(&self, name: &str) -> bool
-        ensures { result ≡ is_repeated_among (exported_names (export_seen self.now)) name.now }
+        ensures { result ≡ is_repeated_among (exported_names (export_view self.now)) name.now }
     {
         let shown = self.shown;
         let inputs = shown.inputs;
@@ -73,7 +75,7 @@ impl<'a> ImportArgs<'a> {
     /// byte by byte, so `a` and `./a` differ. Two names of files to read may be equal.
     #[tactic(auto, unfolding(crate::specs::Words::repeated_import))]
     pub fn given_twice(&self) -> Option<&'a str>
-        ensures { option_map (λ name. name.now) result ≡ repeated_import (import_seen self.now) }
+        ensures { option_map (λ name. name.now) result ≡ repeated_import (import_view self.now) }
     {
         if self.is_repeated(self.result) {
             Some(self.result)
@@ -86,7 +88,7 @@ impl<'a> ImportArgs<'a> {
 
     // Whether this name is given more than once.
     fn is_repeated(&self, name: &str) -> bool
-        ensures { result ≡ is_repeated_among (imported_names (import_seen self.now)) name.now }
+        ensures { result ≡ is_repeated_among (imported_names (import_view self.now)) name.now }
     {
         let shown = self.shown;
         let inputs = shown.inputs;
@@ -108,7 +110,12 @@ fn step_command<'a>(alloc: Global, name: &'a str, about: &'a str) -> Result<Comm
     ensures app { IfOk result (λ c. app_of c ≡ step_app name.entry.now) }
     ensures local { IfOk result (λ c. (out-Command c).has_globals ≡ false) }
 {
-    let shown = file_command(alloc, name, about, &[DOMAINS, ROWS, SCENARIO, SHOWN])?;
+    let shown = file_command(
+        alloc,
+        name,
+        about,
+        &[DOMAINS, ROWS, SCENARIO, VERIFIED_TRANSCRIPT],
+    )?;
     shown.arg(number(
         alloc,
         "STEP",
@@ -159,7 +166,7 @@ fn step_of<'a>(matches: &ArgMatches<'a>) -> Option<u32>
 }
 
 pub(crate) fn export_args<'a>(matches: &ArgMatches<'a>) -> Option<ExportArgs<'a>>
-    ensures { option_map export_seen result ≡ export_names (rows_of (found_of matches.now)) }
+    ensures { option_map export_view result ≡ export_names (rows_of (found_of matches.now)) }
 {
     let shown = verify_args(matches)?;
     let step = step_of(matches)?;
@@ -172,7 +179,7 @@ pub(crate) fn export_args<'a>(matches: &ArgMatches<'a>) -> Option<ExportArgs<'a>
 }
 
 pub(crate) fn import_args<'a>(matches: &ArgMatches<'a>) -> Option<ImportArgs<'a>>
-    ensures { option_map import_seen result ≡ import_names (rows_of (found_of matches.now)) }
+    ensures { option_map import_view result ≡ import_names (rows_of (found_of matches.now)) }
 {
     let shown = verify_args(matches)?;
     let step = step_of(matches)?;

@@ -3,7 +3,7 @@
 ghost use Rattle.std.specs.Prelude.{◌≡◌, IfOk, false, option_map};
 ghost use Rattle.clap.specs.Words.{app_of, found_of, rows_of};
 ghost use Rattle.clap.specs.declared.builder.command.Command.TheViews.{out-Command};
-ghost use Rattle.command_words.specs.Words.{is_repeated_among, repeated_resume, resume_app, resume_names, resume_seen, resumed_names};
+ghost use Rattle.command_words.specs.Words.{is_repeated_among, repeated_resume, resume_app, resume_names, resume_view, resumed_names};
 
 use crate::file_args::{
     CHANNELS, DOMAINS, FileArg, RESULT, ROWS, SCENARIO, TRANSCRIPT, file_command,
@@ -26,7 +26,7 @@ impl<'a> ResumeArgs<'a> {
     /// byte by byte, so `a` and `./a` differ. Two names of files to read may be equal.
     #[tactic(auto, unfolding(crate::specs::Words::repeated_resume))]
     pub fn given_twice(&self) -> Option<&'a str>
-        ensures { option_map (λ name. name.now) result ≡ repeated_resume (resume_seen self.now) }
+        ensures { option_map (λ name. name.now) result ≡ repeated_resume (resume_view self.now) }
     {
         let files = self.run_files;
         if self.is_repeated(files.result) {
@@ -42,7 +42,7 @@ impl<'a> ResumeArgs<'a> {
 
     // Whether this name is given more than once.
     fn is_repeated(&self, name: &str) -> bool
-        ensures { result ≡ is_repeated_among (resumed_names (resume_seen self.now)) name.now }
+        ensures { result ≡ is_repeated_among (resumed_names (resume_view self.now)) name.now }
     {
         let files = self.run_files;
         let inputs = files.inputs;
@@ -75,7 +75,7 @@ pub(crate) fn resume_command<'a>(alloc: Global) -> Result<Command<'a>, AllocErro
 }
 
 pub(crate) fn resume_args<'a>(matches: &ArgMatches<'a>) -> Option<ResumeArgs<'a>>
-    ensures { option_map resume_seen result ≡ resume_names (rows_of (found_of matches.now)) }
+    ensures { option_map resume_view result ≡ resume_names (rows_of (found_of matches.now)) }
 {
     let run_files = plain_run_args(matches)?;
     let prefix = value_of(matches, "PREFIX")?;

@@ -6,10 +6,11 @@ ghost use Rattle.std.specs.Str.{bytes_eq};
 ghost use Rattle.clap.specs.Words.{app_of, first_of, found_of, rows_of};
 ghost use Rattle.clap.specs.declared.builder.command.Command.TheViews.{out-Command};
 ghost use Rattle.command_words.specs.Words.{name_of};
-ghost use Rattle.command_words.specs.Words.{check_app, input_names, inputs_seen, is_repeated_in, live_app, live_names, names_seen, repeated_output, run_app, run_names, shown_by_names, verify_app, verify_live_app, verify_names, verify_seen};
+ghost use Rattle.command_words.specs.Words.{check_app, input_names, inputs_view, is_repeated_in, live_app, live_names, run_names_view, repeated_output, run_app, run_names, shown_by_names, verify_app, verify_live_app, verify_names, verify_view};
 
 use crate::file_args::{
-    CHANNELS, DOMAINS, FileArg, OWNERS, RESULT, ROWS, SCENARIO, SHOWN, TRANSCRIPT, file_command,
+    CHANNELS, DOMAINS, FileArg, OWNERS, RESULT, ROWS, SCENARIO, TRANSCRIPT, VERIFIED_TRANSCRIPT,
+    file_command,
 };
 use clap::{ArgMatches, Command};
 use std::alloc::{AllocError, Global};
@@ -64,7 +65,7 @@ impl<'a> InputArgs<'a> {
     /// Returns the name of an input file. Without an owners' file, the scenario's name stands in for it, since the scenario has the
     /// values. For a batch, the list's name is stored as that of the scenario.
     pub fn of(&self, input: Input) -> &'a str
-        ensures { result.now ≡ name_of (inputs_seen self.now) input }
+        ensures { result.now ≡ name_of (inputs_view self.now) input }
     {
         match input {
             Input::Domains => self.domains,
@@ -81,7 +82,7 @@ impl<'a> RunArgs<'a> {
     /// byte, so `a` and `./a` differ. Two input names may be equal.
     #[tactic(auto, unfolding(crate::specs::Words::repeated_output))]
     pub fn given_twice(&self) -> Option<&'a str>
-        ensures { option_map (λ name. name.now) result ≡ repeated_output (names_seen self.now) }
+        ensures { option_map (λ name. name.now) result ≡ repeated_output (run_names_view self.now) }
     {
         if self.is_repeated(self.result) {
             Some(self.result)
@@ -96,7 +97,7 @@ impl<'a> RunArgs<'a> {
 
     // Whether this name is given more than once.
     fn is_repeated(&self, name: &str) -> bool
-        ensures { result ≡ is_repeated_in name.now (names_seen self.now) }
+        ensures { result ≡ is_repeated_in name.now (run_names_view self.now) }
     {
         let InputArgs {
             domains,
@@ -161,7 +162,12 @@ pub(crate) fn verify_command<'a>(alloc: Global) -> Result<Command<'a>, AllocErro
     ensures local { IfOk result (λ c. (out-Command c).has_globals ≡ false) }
 {
     let about = "Checks a transcript and prints its result; stores nothing";
-    file_command(alloc, "verify", about, &[DOMAINS, ROWS, SCENARIO, SHOWN])
+    file_command(
+        alloc,
+        "verify",
+        about,
+        &[DOMAINS, ROWS, SCENARIO, VERIFIED_TRANSCRIPT],
+    )
 }
 
 pub(crate) fn verify_live_command<'a>(alloc: Global) -> Result<Command<'a>, AllocError>
@@ -189,7 +195,7 @@ pub(crate) fn value_of<'a>(matches: &ArgMatches<'a>, id: &str) -> Option<&'a str
 }
 
 pub(crate) fn input_args<'a>(matches: &ArgMatches<'a>) -> Option<InputArgs<'a>>
-    ensures { option_map inputs_seen result ≡ input_names (rows_of (found_of matches.now)) }
+    ensures { option_map inputs_view result ≡ input_names (rows_of (found_of matches.now)) }
 {
     let domains = value_of(matches, "DOMAINS")?;
     let rows = value_of(matches, "ROWS")?;
@@ -203,7 +209,7 @@ pub(crate) fn input_args<'a>(matches: &ArgMatches<'a>) -> Option<InputArgs<'a>>
 }
 
 pub(crate) fn live_args<'a>(matches: &ArgMatches<'a>) -> Option<InputArgs<'a>>
-    ensures { option_map inputs_seen result ≡ live_names (rows_of (found_of matches.now)) }
+    ensures { option_map inputs_view result ≡ live_names (rows_of (found_of matches.now)) }
 {
     let inputs = input_args(matches)?;
     let owners = value_of(matches, "OWNERS")?;
@@ -214,7 +220,7 @@ pub(crate) fn live_args<'a>(matches: &ArgMatches<'a>) -> Option<InputArgs<'a>>
 }
 
 pub(crate) fn run_args<'a>(matches: &ArgMatches<'a>, inputs: InputArgs<'a>) -> Option<RunArgs<'a>>
-    ensures { option_map names_seen result ≡ run_names (rows_of (found_of matches.now)) (inputs_seen inputs.entry) }
+    ensures { option_map run_names_view result ≡ run_names (rows_of (found_of matches.now)) (inputs_view inputs.entry) }
 {
     let result = value_of(matches, "RESULT")?;
     let channels = value_of(matches, "CHANNELS")?;
@@ -229,34 +235,34 @@ pub(crate) fn run_args<'a>(matches: &ArgMatches<'a>, inputs: InputArgs<'a>) -> O
 
 // Returns the arguments of `run`.
 pub(crate) fn plain_run_args<'a>(matches: &ArgMatches<'a>) -> Option<RunArgs<'a>>
-    ensures { option_map names_seen result ≡ option_and_then (run_names (rows_of (found_of matches.now))) (input_names (rows_of (found_of matches.now))) }
+    ensures { option_map run_names_view result ≡ option_and_then (run_names (rows_of (found_of matches.now))) (input_names (rows_of (found_of matches.now))) }
 {
     run_args(matches, input_args(matches)?)
 }
 
 // Returns the arguments of `live`.
 pub(crate) fn live_run_args<'a>(matches: &ArgMatches<'a>) -> Option<RunArgs<'a>>
-    ensures { option_map names_seen result ≡ option_and_then (run_names (rows_of (found_of matches.now))) (live_names (rows_of (found_of matches.now))) }
+    ensures { option_map run_names_view result ≡ option_and_then (run_names (rows_of (found_of matches.now))) (live_names (rows_of (found_of matches.now))) }
 {
     run_args(matches, live_args(matches)?)
 }
 
 fn shown_args<'a>(matches: &ArgMatches<'a>, inputs: InputArgs<'a>) -> Option<VerifyArgs<'a>>
-    ensures { option_map verify_seen result ≡ shown_by_names (rows_of (found_of matches.now)) (inputs_seen inputs.entry) }
+    ensures { option_map verify_view result ≡ shown_by_names (rows_of (found_of matches.now)) (inputs_view inputs.entry) }
 {
     let transcript = value_of(matches, "TRANSCRIPT")?;
     Some(VerifyArgs { inputs, transcript })
 }
 
 pub(crate) fn verify_args<'a>(matches: &ArgMatches<'a>) -> Option<VerifyArgs<'a>>
-    ensures { option_map verify_seen result ≡ verify_names (rows_of (found_of matches.now)) }
+    ensures { option_map verify_view result ≡ verify_names (rows_of (found_of matches.now)) }
 {
     shown_args(matches, input_args(matches)?)
 }
 
 // Returns the arguments of `verify-live`.
 pub(crate) fn verify_live_args<'a>(matches: &ArgMatches<'a>) -> Option<VerifyArgs<'a>>
-    ensures { option_map verify_seen result ≡ option_and_then (shown_by_names (rows_of (found_of matches.now))) (live_names (rows_of (found_of matches.now))) }
+    ensures { option_map verify_view result ≡ option_and_then (shown_by_names (rows_of (found_of matches.now))) (live_names (rows_of (found_of matches.now))) }
 {
     shown_args(matches, live_args(matches)?)
 }

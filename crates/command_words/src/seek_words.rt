@@ -3,7 +3,7 @@
 ghost use Rattle.std.specs.Prelude.{◌≡◌, IfOk, false, option_map};
 ghost use Rattle.clap.specs.Words.{app_of, found_of, rows_of};
 ghost use Rattle.clap.specs.declared.builder.command.Command.TheViews.{out-Command};
-ghost use Rattle.command_words.specs.Words.{inputs_seen, is_repeated_among, repeated_seek, seek_app, seek_inputs, seek_names, seek_seen, sought_names};
+ghost use Rattle.command_words.specs.Words.{inputs_view, is_repeated_among, repeated_seek, seek_app, seek_inputs, seek_names, seek_view, seek_file_names};
 
 use crate::file_args::{DOMAINS, FileArg, ROWS, SCENARIO, file_command};
 use crate::run_words::{InputArgs, input_args, times_in, value_of};
@@ -28,7 +28,7 @@ impl<'a> SeekArgs<'a> {
     /// differ. Two names of files to read may be equal.
     #[tactic(auto, unfolding(crate::specs::Words::repeated_seek))]
     pub fn given_twice(&self) -> Option<&'a str>
-        ensures { option_map (λ name. name.now) result ≡ repeated_seek (seek_seen self.now) }
+        ensures { option_map (λ name. name.now) result ≡ repeated_seek (seek_view self.now) }
     {
         if self.is_repeated(self.channels) {
             Some(self.channels)
@@ -39,7 +39,7 @@ impl<'a> SeekArgs<'a> {
 
     // Whether this name is given more than once.
     fn is_repeated(&self, name: &str) -> bool
-        ensures { result ≡ is_repeated_among (sought_names (seek_seen self.now)) name.now }
+        ensures { result ≡ is_repeated_among (seek_file_names (seek_view self.now)) name.now }
     {
         let given = [self.domains, self.rows, self.scenario, self.channels];
         times_in(&given, name) > 1
@@ -47,7 +47,7 @@ impl<'a> SeekArgs<'a> {
 
     /// Returns the input files. There is no owners' file among them.
     pub fn inputs(&self) -> InputArgs<'a>
-        ensures { inputs_seen result ≡ seek_inputs (seek_seen self.now) }
+        ensures { inputs_view result ≡ seek_inputs (seek_view self.now) }
     {
         InputArgs {
             domains: self.domains,
@@ -71,7 +71,7 @@ pub(crate) fn seek_command<'a>(alloc: Global) -> Result<Command<'a>, AllocError>
 }
 
 pub(crate) fn seek_args<'a>(matches: &ArgMatches<'a>) -> Option<SeekArgs<'a>>
-    ensures { option_map seek_seen result ≡ seek_names (rows_of (found_of matches.now)) }
+    ensures { option_map seek_view result ≡ seek_names (rows_of (found_of matches.now)) }
 {
     let inputs = input_args(matches)?;
     let channels = value_of(matches, "CHANNELS")?;

@@ -4,7 +4,7 @@ ghost use Rattle.std.specs.Prelude.{◌≡◌, ◌≢◌, IfErr, IfOk, IsOkAnd, 
 ghost use Rattle.std.specs.Str.{bytes_eq};
 ghost use Rattle.clap.specs.Words.{app_of, found_of, kind_of, rows_of, subcommand_rows_of, with_subcommand};
 ghost use Rattle.clap.specs.declared.builder.command.Command.TheViews.{out-Command};
-ghost use Rattle.command_words.specs.Words.{IsRefused, bare_app, batching_app, command_of, command_seen, live_reading_app, named_command, program_app, reading_app, resuming_app, seeking_app};
+ghost use Rattle.command_words.specs.Words.{IsRefused, app_without_commands, app_with_batch, command_of, command_view, app_with_live_reading, named_command, program_app, app_with_reading, app_with_resume, app_with_seek};
 ghost use Rattle.command_words.specs.Words.{batch, batch_names, export, export_names, import, import_names, make, make_names, resume, resume_names, seek, seek_names};
 
 use crate::batch_words::{BatchArgs, batch_args, batch_command};
@@ -55,8 +55,8 @@ pub enum WordsFault {
 }
 
 // Returns the program without its commands. Its name in messages does not depend on how it was called.
-fn bare_program<'a>(alloc: Global) -> Result<Command<'a>, AllocError>
-    ensures app { IfOk result (λ c. app_of c ≡ bare_app) }
+fn program_without_commands<'a>(alloc: Global) -> Result<Command<'a>, AllocError>
+    ensures app { IfOk result (λ c. app_of c ≡ app_without_commands) }
     ensures local { IfOk result (λ c. (out-Command c).has_globals ≡ false) }
 {
     let command = Command::new(alloc, "repack")
@@ -82,48 +82,48 @@ fn with_command<'a>(
 }
 
 // Returns the program with the commands that read an auction's files and take no step.
-fn reading_program<'a>(alloc: Global) -> Result<Command<'a>, AllocError>
-    ensures app { IfOk result (λ c. app_of c ≡ reading_app) }
+fn with_reading_commands<'a>(alloc: Global) -> Result<Command<'a>, AllocError>
+    ensures app { IfOk result (λ c. app_of c ≡ app_with_reading) }
     ensures local { IfOk result (λ c. (out-Command c).has_globals ≡ false) }
 {
-    let running = with_command(bare_program(alloc)?, run_command(alloc))?;
+    let running = with_command(program_without_commands(alloc)?, run_command(alloc))?;
     let checking = with_command(running, check_command(alloc))?;
     with_command(checking, verify_command(alloc))
 }
 
 // Returns the same with the commands of a live auction.
-fn live_reading_program<'a>(alloc: Global) -> Result<Command<'a>, AllocError>
-    ensures app { IfOk result (λ c. app_of c ≡ live_reading_app) }
+fn with_live_reading_commands<'a>(alloc: Global) -> Result<Command<'a>, AllocError>
+    ensures app { IfOk result (λ c. app_of c ≡ app_with_live_reading) }
     ensures local { IfOk result (λ c. (out-Command c).has_globals ≡ false) }
 {
-    let live = with_command(reading_program(alloc)?, live_command(alloc))?;
+    let live = with_command(with_reading_commands(alloc)?, live_command(alloc))?;
     with_command(live, verify_live_command(alloc))
 }
 
 // Returns the same with the command that continues an auction.
-fn resuming_program<'a>(alloc: Global) -> Result<Command<'a>, AllocError>
-    ensures app { IfOk result (λ c. app_of c ≡ resuming_app) }
+fn with_resume_command<'a>(alloc: Global) -> Result<Command<'a>, AllocError>
+    ensures app { IfOk result (λ c. app_of c ≡ app_with_resume) }
     ensures local { IfOk result (λ c. (out-Command c).has_globals ≡ false) }
 {
-    let program = live_reading_program(alloc)?;
+    let program = with_live_reading_commands(alloc)?;
     with_command(program, resume_command(alloc))
 }
 
 // Returns the same with the command that finds the least top channel.
-fn seeking_program<'a>(alloc: Global) -> Result<Command<'a>, AllocError>
-    ensures app { IfOk result (λ c. app_of c ≡ seeking_app) }
+fn with_seek_command<'a>(alloc: Global) -> Result<Command<'a>, AllocError>
+    ensures app { IfOk result (λ c. app_of c ≡ app_with_seek) }
     ensures local { IfOk result (λ c. (out-Command c).has_globals ≡ false) }
 {
-    let program = resuming_program(alloc)?;
+    let program = with_resume_command(alloc)?;
     with_command(program, seek_command(alloc))
 }
 
 // Returns the same with the command that runs many auctions.
-fn batching_program<'a>(alloc: Global) -> Result<Command<'a>, AllocError>
-    ensures app { IfOk result (λ c. app_of c ≡ batching_app) }
+fn with_batch_command<'a>(alloc: Global) -> Result<Command<'a>, AllocError>
+    ensures app { IfOk result (λ c. app_of c ≡ app_with_batch) }
     ensures local { IfOk result (λ c. (out-Command c).has_globals ≡ false) }
 {
-    let program = seeking_program(alloc)?;
+    let program = with_seek_command(alloc)?;
     with_command(program, batch_command(alloc))
 }
 
@@ -131,14 +131,14 @@ fn batching_program<'a>(alloc: Global) -> Result<Command<'a>, AllocError>
 fn program<'a>(alloc: Global) -> Result<Command<'a>, AllocError>
     ensures { IfOk result (λ c. app_of c ≡ program_app) }
 {
-    let making = with_command(batching_program(alloc)?, make_command(alloc))?;
+    let making = with_command(with_batch_command(alloc)?, make_command(alloc))?;
     let exporting = with_command(making, export_command(alloc))?;
     with_command(exporting, import_command(alloc))
 }
 
 // Returns the command that `clap` found, with its arguments.
 fn command_args<'a>(matches: &ArgMatches<'a>) -> Option<CommandArgs<'a>>
-    ensures { option_map command_seen result ≡ option_and_then named_command (subcommand_rows_of matches.now) }
+    ensures { option_map command_view result ≡ option_and_then named_command (subcommand_rows_of matches.now) }
 {
     let (name, inner) = matches.subcommand()?;
     named_args(name, inner)
@@ -146,7 +146,7 @@ fn command_args<'a>(matches: &ArgMatches<'a>) -> Option<CommandArgs<'a>>
 
 // Returns the command of this name, with its arguments.
 fn named_args<'a>(name: &str, inner: &ArgMatches<'a>) -> Option<CommandArgs<'a>>
-    ensures { option_map command_seen result ≡ named_command (name.now, rows_of (found_of inner.now)) }
+    ensures { option_map command_view result ≡ named_command (name.now, rows_of (found_of inner.now)) }
 {
     if name == "run" {
         plain_run_args(inner).map(CommandArgs::Run)
@@ -159,14 +159,14 @@ fn named_args<'a>(name: &str, inner: &ArgMatches<'a>) -> Option<CommandArgs<'a>>
     } else if name == "verify-live" {
         verify_live_args(inner).map(CommandArgs::Verify)
     } else {
-        other_args(name, inner)
+        remaining_args(name, inner)
     }
 }
 
 // Returns the command of this name, with its arguments, for the names that `named_args` leaves.
-fn other_args<'a>(name: &str, inner: &ArgMatches<'a>) -> Option<CommandArgs<'a>>
+fn remaining_args<'a>(name: &str, inner: &ArgMatches<'a>) -> Option<CommandArgs<'a>>
     ensures { let rows = rows_of (found_of inner.now) in
-        option_map command_seen result ≡ (if bytes_eq name.now (codes "resume") then option_map resume (resume_names rows)
+        option_map command_view result ≡ (if bytes_eq name.now (codes "resume") then option_map resume (resume_names rows)
         else (if bytes_eq name.now (codes "seek") then option_map seek (seek_names rows)
         else (if bytes_eq name.now (codes "batch") then option_map batch (batch_names rows)
         else (if bytes_eq name.now (codes "make") then option_map make (make_names rows)
@@ -180,14 +180,14 @@ fn other_args<'a>(name: &str, inner: &ArgMatches<'a>) -> Option<CommandArgs<'a>>
     } else if name == "batch" {
         batch_args(inner).map(CommandArgs::Batch)
     } else {
-        last_args(name, inner)
+        make_or_step_args(name, inner)
     }
 }
 
 // Returns the command of this name, with its arguments: `make`, or a command that takes a step of a transcript.
-fn last_args<'a>(name: &str, inner: &ArgMatches<'a>) -> Option<CommandArgs<'a>>
+fn make_or_step_args<'a>(name: &str, inner: &ArgMatches<'a>) -> Option<CommandArgs<'a>>
     ensures { let rows = rows_of (found_of inner.now) in
-        option_map command_seen result ≡ (if bytes_eq name.now (codes "make") then option_map make (make_names rows)
+        option_map command_view result ≡ (if bytes_eq name.now (codes "make") then option_map make (make_names rows)
         else (if bytes_eq name.now (codes "export") then option_map export (export_names rows)
         else (if bytes_eq name.now (codes "import") then option_map import (import_names rows) else None))) }
 {
@@ -243,7 +243,7 @@ fn fault_from(alloc: Global, error: &Error) -> WordsFault
 /// Fails with `NoMemory` if memory runs out.
 #[tactic(auto, unfolding(crate::specs::Words::command_of))]
 pub fn read_words<'a>(alloc: Global, words: &'a [String]) -> Result<CommandArgs<'a>, WordsFault>
-    ensures command { IfOk result (λ c. command_of (map string_bytes words.entry.now) ≡ Some (command_seen c)) }
+    ensures command { IfOk result (λ c. command_of (map string_bytes words.entry.now) ≡ Some (command_view c)) }
     ensures refused { IfErr result (λ e. IsRefused e → command_of (map string_bytes words.entry.now) ≡ None) }
 {
     let Ok(program) = program(alloc) else {

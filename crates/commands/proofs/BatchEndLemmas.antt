@@ -6,16 +6,16 @@ use Rattle.std.proofs.lemmas.List.{drop_all, drop_more}
 use Rattle.outside_io.specs.Files.{StoredFile}
 use Rattle.batch_list.specs.ListOf.{ListedNames}
 use Rattle.batch_list.specs.Repeated.{repeated_result}
-use Rattle.commands.specs.declared.batch_inputs.Constraints.{Constraints}
-use Rattle.commands.specs.declared.batch_inputs.Listed.{Listed}
-use Rattle.commands.specs.declared.batch_run.Ran.{Ran}
+use Rattle.commands.specs.declared.inputs.batch_inputs.Constraints.{Constraints}
+use Rattle.commands.specs.declared.inputs.batch_inputs.Listed.{Listed}
+use Rattle.commands.specs.declared.batch_run.BatchRunResult.{BatchRunResult}
 use Rattle.commands.specs.declared.inputs.Inputs.{Inputs}
-use Rattle.commands.specs.declared.input_file.Stop.{Stop}
-use Rattle.commands.specs.declared.input_file.Stop.TheVariants.{CannotRead, NoMemory, Refused}
-use Rattle.commands.specs.Batch.{BatchStop, Unread, Twice, ListedView, among, batch_of, each_inputs, unless_stopped, inputs_beside, listing_of, listed_seen, own_texts, names_in_words}
+use Rattle.commands.specs.declared.inputs.input_file.Stop.{Stop}
+use Rattle.commands.specs.declared.inputs.input_file.Stop.TheVariants.{CannotRead, NoMemory, Refused}
+use Rattle.commands.specs.Batch.{BatchStop, Unread, Twice, ListedView, among, batch_of, each_inputs, unless_stopped, inputs_with_constraints, listing_of, listed_seen, own_texts, names_in_words}
 use Rattle.command_words.specs.Words.{inputs_with}
 use Rattle.commands.specs.BatchEnds.{AreRecordsOf, CountsStop, EachOf, ExplainsStop, IsBatchStopped, IsReadingStopped, IsUnderList, IsUnderOneOf, StopsAsHeld, StopsUnder}
-use Rattle.commands.specs.BatchRuns.{IsRun}
+use Rattle.commands.specs.BatchRun.{IsRun}
 use Rattle.commands.specs.Inputs.{Agrees, CountsFault, RisesAt}
 use Rattle.commands.specs.Outside.{Outside}
 use Rattle.commands.specs.Records.{IsRecordBy}
@@ -88,8 +88,8 @@ pub stopped-each : (names : BatchNames) (listed : ListedView) (before between af
 stopped-each names listed before between after status read once s same h = record {
   stop = h.stop;
   under = by h.stop h.under;
-  told = λ files told. stops-each files names before.steady listed h.stop (read files told) once
-      (subst (λ b. StopsAsHeld b (each_inputs files names listed.constraints listed.lines) h.stop) s.steady (h.told files (s.files ∙ told)));
+  modelled = λ files modelled. stops-each files names before.steady listed h.stop (read files modelled) once
+      (subst (λ b. StopsAsHeld b (each_inputs files names listed.constraints listed.lines) h.stop) s.steady (h.modelled files (s.files ∙ modelled)));
   counted = subst (λ n. CountsStop n after.faults h.stop) same h.counted;
   explains = subst (λ z. ExplainsStop h.stop before.held after.held z after.cuts status) s.cuts
       (subst (λ z. ExplainsStop h.stop z after.held between.cuts after.cuts status) s.held h.explains);
@@ -97,7 +97,7 @@ stopped-each names listed before between after status read once s same h = recor
 }
   where
     by : (stop : BatchStop) → StopsUnder (IsUnderOneOf names listed.lines) stop → StopsUnder (IsUnderList names before) stop
-    by (Unread own why) under = inr (listed.lines, under, λ files told. (listed.constraints, read files told))
+    by (Unread own why) under = inr (listed.lines, under, λ files modelled. (listed.constraints, read files modelled))
     by (Twice name) under = tt
 
 -- ---- one scenario after the other
@@ -112,14 +112,14 @@ module _ (files : List StoredFile) (names : BatchNames) (c : Constraints) where
   move done x (Ok more) = ap Ok (sym (append_assoc done (x ∷ []) more))
   move done x (Err stop) = refl
 
-  pub each-next : (done : List Inputs) (lines : List ListedNames) (i : ℕ) (line : ListedNames) (x : Inputs) → i < length lines → line ≡ get_or lines i line → inputs_beside files c line.scenario ≡ Ok x →
+  pub each-next : (done : List Inputs) (lines : List ListedNames) (i : ℕ) (line : ListedNames) (x : Inputs) → i < length lines → line ≡ get_or lines i line → inputs_with_constraints files c line.scenario ≡ Ok x →
       behind done (drop i lines) ≡ behind (done ++ x ∷ []) (drop (i + 1) lines)
   each-next done lines i line x within is read =
       ap (behind done) (drop_more lines i line within ∙ ap (λ y. y ∷ drop (i + 1) lines) (sym is))
       ∙ (ap (λ r. unless_stopped (unless_stopped (among (inputs_with names line.scenario) r) (λ inputs. unless_stopped (each_inputs files names c (drop (i + 1) lines)) (λ more. Ok (inputs ∷ more)))) (λ more. Ok (done ++ more))) read
       ∙ move done x (each_inputs files names c (drop (i + 1) lines)))
 
-  stopped-at : (done : List Inputs) (lines : List ListedNames) (i : ℕ) (line : ListedNames) (why : Stop) → i < length lines → line ≡ get_or lines i line → inputs_beside files c line.scenario ≡ Err why →
+  stopped-at : (done : List Inputs) (lines : List ListedNames) (i : ℕ) (line : ListedNames) (why : Stop) → i < length lines → line ≡ get_or lines i line → inputs_with_constraints files c line.scenario ≡ Err why →
       behind done (drop i lines) ≡ Err (Unread (inputs_with names line.scenario) why)
   stopped-at done lines i line why within is read =
       ap (behind done) (drop_more lines i line within ∙ ap (λ y. y ∷ drop (i + 1) lines) (sym is))
@@ -127,7 +127,7 @@ module _ (files : List StoredFile) (names : BatchNames) (c : Constraints) where
 
   -- The line at which the reading stops.
   pub each-stops : (steady : Bool) (done : List Inputs) (lines : List ListedNames) (i : ℕ) (line : ListedNames) (stop : Stop) → behind done (drop i lines) ≡ each_inputs files names c lines →
-      i < length lines → line ≡ get_or lines i line → Agrees {A = Inputs} {B = Inputs} (λ x. x) steady (inputs_beside files c line.scenario) (Err stop) →
+      i < length lines → line ≡ get_or lines i line → Agrees {A = Inputs} {B = Inputs} (λ x. x) steady (inputs_with_constraints files c line.scenario) (Err stop) →
       StopsAsHeld steady (each_inputs files names c lines) (Unread (inputs_with names line.scenario) stop)
   each-stops steady done lines i line (CannotRead input) so within is h = λ still. sym so ∙ stopped-at done lines i line (CannotRead input) within is (h still)
   each-stops steady done lines i line (Refused why) so within is h = sym so ∙ stopped-at done lines i line (Refused why) within is h
@@ -152,12 +152,12 @@ long-more (y ∷ ys) x = let e = long-more ys x in omega (arith, e)
 same-length : (m n : ℕ) → suc m ≡ suc n → m ≡ n
 same-length m n e = cc
 
-pub records-of : (lines : List ListedNames) (inputs : List Inputs) (rans : List Ran) → length inputs ≡ length lines → AllZip IsRun inputs rans →
-    AreRecordsOf (record { lines = lines; inputs = inputs }) (map (λ (r : Ran). r.record) rans)
+pub records-of : (lines : List ListedNames) (inputs : List Inputs) (rans : List BatchRunResult) → length inputs ≡ length lines → AllZip IsRun inputs rans →
+    AreRecordsOf (record { lines = lines; inputs = inputs }) (map (λ (r : BatchRunResult). r.record) rans)
 records-of lines inputs rans many runs = go lines inputs rans many runs
   where
-    go : (ls : List ListedNames) (is : List Inputs) (rs : List Ran) → length is ≡ length ls → AllZip IsRun is rs →
-        EachOf (λ line i rec. IsRecordBy i rec rec.ending) ls is (map (λ (r : Ran). r.record) rs)
+    go : (ls : List ListedNames) (is : List Inputs) (rs : List BatchRunResult) → length is ≡ length ls → AllZip IsRun is rs →
+        EachOf (λ line i rec. IsRecordBy i rec rec.ending) ls is (map (λ (r : BatchRunResult). r.record) rs)
     go [] [] [] e h = tt
     go [] [] (r ∷ rs) e h = absurd h
     go [] (i ∷ is) rs e h = cc
@@ -165,35 +165,35 @@ records-of lines inputs rans many runs = go lines inputs rans many runs
     go (l ∷ ls) (i ∷ is) [] e h = absurd h
     go (l ∷ ls) (i ∷ is) (r ∷ rs) e h = let first = h.0 in (first.auction, go ls is rs (same-length (length is) (length ls) e) h.1)
 
-pub same-long : (inputs : List Inputs) (rans : List Ran) → AllZip IsRun inputs rans → length rans ≡ length inputs
+pub same-long : (inputs : List Inputs) (rans : List BatchRunResult) → AllZip IsRun inputs rans → length rans ≡ length inputs
 same-long [] [] h = refl
 same-long [] (r ∷ rs) h = absurd h
 same-long (i ∷ is) [] h = absurd h
 same-long (i ∷ is) (r ∷ rs) h = ap suc (same-long is rs h.1)
 
-pub texts-of : (inputs : List Inputs) (rans : List Ran) → AllZip IsRun inputs rans →
-    map (option_map (λ v. v.items)) (map (λ (r : Ran). r.result) rans) ≡ own_texts inputs (map (λ (r : Ran). r.record) rans)
+pub texts-of : (inputs : List Inputs) (rans : List BatchRunResult) → AllZip IsRun inputs rans →
+    map (option_map (λ v. v.items)) (map (λ (r : BatchRunResult). r.result) rans) ≡ own_texts inputs (map (λ (r : BatchRunResult). r.record) rans)
 texts-of [] [] h = refl
 texts-of [] (r ∷ rs) h = absurd h
 texts-of (i ∷ is) [] h = absurd h
 texts-of (i ∷ is) (r ∷ rs) h = let first = h.0 in let text = first.text in let rest = texts-of is rs h.1 in λ j. text j ∷ rest j
 
 -- Memory ran out in none of them.
-abbrev pub ran-so : {E : Type 0} → Ran → Result Ran E
+abbrev pub ran-so : {E : Type 0} → BatchRunResult → Result BatchRunResult E
 ran-so ran = Ok ran
 
-pub all-runs : {E : Type 0} (inputs : List Inputs) (rans : List Ran) (came : List (Result Ran E)) → map (λ (ran : Ran). ran-so {E = E} ran) rans ≡ came →
-    AllZip (λ (i : Inputs) (ran : Result Ran E). IfOk ran (IsRun i)) inputs came → AllZip IsRun inputs rans
-all-runs {E = E} inputs rans came e h = go inputs rans (subst (λ (l : List (Result Ran E)). AllZip (λ (i : Inputs) (ran : Result Ran E). IfOk ran (IsRun i)) inputs l) (sym e) h)
+pub all-runs : {E : Type 0} (inputs : List Inputs) (rans : List BatchRunResult) (came : List (Result BatchRunResult E)) → map (λ (ran : BatchRunResult). ran-so {E = E} ran) rans ≡ came →
+    AllZip (λ (i : Inputs) (ran : Result BatchRunResult E). IfOk ran (IsRun i)) inputs came → AllZip IsRun inputs rans
+all-runs {E = E} inputs rans came e h = go inputs rans (subst (λ (l : List (Result BatchRunResult E)). AllZip (λ (i : Inputs) (ran : Result BatchRunResult E). IfOk ran (IsRun i)) inputs l) (sym e) h)
   where
-    go : (is : List Inputs) (rs : List Ran) → AllZip (λ (i : Inputs) (ran : Result Ran E). IfOk ran (IsRun i)) is (map (λ (ran : Ran). ran-so {E = E} ran) rs) → AllZip IsRun is rs
+    go : (is : List Inputs) (rs : List BatchRunResult) → AllZip (λ (i : Inputs) (ran : Result BatchRunResult E). IfOk ran (IsRun i)) is (map (λ (ran : BatchRunResult). ran-so {E = E} ran) rs) → AllZip IsRun is rs
     go [] [] k = tt
     go [] (r ∷ rs) k = absurd k
     go (i ∷ is) [] k = absurd k
     go (i ∷ is) (r ∷ rs) k = (k.0, go is rs k.1)
 
-pub none-wants : {E F V : Type 0} (inputs : List Inputs) (came : List (Result Ran E)) (r : Result V F) (items : V → List Ran) → IfOk r (λ all. map (λ (ran : Ran). ran-so {E = E} ran) (items all) ≡ came) →
-    AllZip (λ (i : Inputs) (ran : Result Ran E). IfOk ran (IsRun i)) inputs came → IfOk r (λ all. AllZip IsRun inputs (items all))
+pub none-wants : {E F V : Type 0} (inputs : List Inputs) (came : List (Result BatchRunResult E)) (r : Result V F) (items : V → List BatchRunResult) → IfOk r (λ all. map (λ (ran : BatchRunResult). ran-so {E = E} ran) (items all) ≡ came) →
+    AllZip (λ (i : Inputs) (ran : Result BatchRunResult E). IfOk ran (IsRun i)) inputs came → IfOk r (λ all. AllZip IsRun inputs (items all))
 none-wants inputs came (Ok all) items e h = all-runs inputs (items all) came e h
 none-wants inputs came (Err why) items e h = tt
 

@@ -4,20 +4,20 @@ use Rattle.std.specs.Prelude.{Ok, Err, MatchOption, slice_get, suc, zero}
 use Rattle.std.proofs.lemmas.Bool.{true≢false}
 use Rattle.std.proofs.lemmas.List.Elements.{All-cons, All-head, All-nil, All-tail}
 use Rattle.outside_io.specs.Faults.{HasRisen}
-use Rattle.outside_io.specs.Groups.{AreAllStored as AllStoredBy, FailsOne, StopsAt, StoresOne, stored_file}
-use Rattle.outside_io.specs.Told.{FolderTold, SinkTold}
+use Rattle.outside_io.specs.StoreAll.{AreAllStored as AllStoredBy, FailsOne, StopsAt, StoresOne, stored_file}
+use Rattle.outside_io.specs.Models.{FolderModel, SinkModel}
 use Rattle.outside_io.specs.declared.folder.NewFile.{NewFile}
-use Rattle.outside_io.specs.Files.{OthersStand, Puts, StoredFile, bytes_of}
+use Rattle.outside_io.specs.Files.{OthersUnchanged, Puts, StoredFile, bytes_of}
 use Rattle.outside_io.specs.Loads.{Stores, Writes}
 use Rattle.outside_io.specs.declared.folder.StoreErr.{StoreErr}
 use Rattle.outside_io.specs.declared.folder.StoreErr.TheVariants.{Failed, NoMemory}
 use Rattle.commands.specs.Delivery.{AreAllStored, AreStored, AreStoredUpTo, Delivers, ExplainsStore, IsNotStored, IsOther, IsPrinted, IsStored, NamedText, StopsAtOne, named_text, names_of}
 use Rattle.commands.specs.Delivery.IsNotStored.{Unwritten, OutOfRoom as NoRoom}
 use Rattle.commands.specs.Delivery.IsPrinted.{Written, CutShort}
-use Rattle.commands.specs.Outside.{Outside, IsSaid, outside}
-use Rattle.commands.specs.Says.{memory_line, unwritten_line}
+use Rattle.commands.specs.Outside.{Outside, IsLinePrinted, outside}
+use Rattle.commands.specs.Messages.{memory_line, unwritten_line}
 use Rattle.commands.specs.Faults.{AreFaultsCounted}
-use Rattle.commands.proofs.SaysLemmas.{rises-before}
+use Rattle.commands.proofs.MessageLemmas.{rises-before}
 use Rattle.commands.proofs.Statuses.{off, one-of}
 
 -- Whether the texts have different names.
@@ -32,7 +32,7 @@ LeavesAll xs before after = (files : List StoredFile) → before.files ≡ Some 
 -- The texts up to this one, which was not stored.
 pub record IsPart (files : List StoredFile) (xs : List NamedText) (x : NamedText) (after : Outside) : Type 0 where
   pub new : List StoredFile
-  pub now_told : after.files ≡ Some new
+  pub now_modelled : after.files ≡ Some new
   pub part : AreStoredUpTo files new xs
   pub failed : part.failed ≡ x
 
@@ -43,10 +43,10 @@ LeavesPart xs x before after = (files : List StoredFile) → before.files ≡ So
 pub data Ended (xs : List NamedText) (summary : List ℕ) (done : ℕ) (before after : Outside) (status : ℕ) : Type 0 where
   Both : status ≡ done → LeavesAll xs before after → Writes before.held after.held summary (Ok tt) → Ended xs summary done before after status
   NotSaid : status ≡ 4 → LeavesAll xs before after → HasRisen before.cuts after.cuts → before.sure < length summary →
-      IsSaid before after summary → Ended xs summary done before after status
+      IsLinePrinted before after summary → Ended xs summary done before after status
   NotStored : (x : NamedText) → status ≡ 4 → LeavesPart xs x before after → HasRisen before.faults after.faults → before.steady ≢ true →
-      IsSaid before after (unwritten_line x.name) → Ended xs summary done before after status
-  OutOfRoom : (x : NamedText) → status ≡ 8 → LeavesPart xs x before after → IsSaid before after memory_line →
+      IsLinePrinted before after (unwritten_line x.name) → Ended xs summary done before after status
+  OutOfRoom : (x : NamedText) → status ≡ 8 → LeavesPart xs x before after → IsLinePrinted before after memory_line →
       Ended xs summary done before after status
 
 -- ---- one store
@@ -55,7 +55,7 @@ told-store : (now : Option (List StoredFile)) (files : List StoredFile) (name te
 told-store None files name text h = absurd h
 told-store (Some new) files name text h = (new, refl, h)
 
-failed-store : (now : Option (List StoredFile)) (files : List StoredFile) (name text : List ℕ) (e : StoreErr) → Stores (Some files) now name text (Err e) → (new : List StoredFile) × (now ≡ Some new) × OthersStand files new name
+failed-store : (now : Option (List StoredFile)) (files : List StoredFile) (name text : List ℕ) (e : StoreErr) → Stores (Some files) now name text (Err e) → (new : List StoredFile) × (now ≡ Some new) × OthersUnchanged files new name
 failed-store None files name text e h = absurd h
 failed-store (Some new) files name text e h = (new, refl, h)
 
@@ -86,7 +86,7 @@ others-up-to old new xs u other k =
 part-more : (files mid : List StoredFile) (after : Outside) (x y : NamedText) (xs : List NamedText) → Puts files mid x.name x.text → IsOther (names_of xs) x.name → IsPart mid xs y after → IsPart files (x ∷ xs) y after
 part-more files mid after x y xs puts apart p = record {
   new = p.new;
-  now_told = p.now_told;
+  now_modelled = p.now_modelled;
   part = record {
     stored = x ∷ p.part.stored;
     failed = p.part.failed;
@@ -101,22 +101,22 @@ part-more files mid after x y xs puts apart p = record {
 }
 
 pub all-more : (x : NamedText) (xs : List NamedText) (before next after : Outside) → IsStored x before next → LeavesAll xs next after → LeavesAll (x ∷ xs) before after
-all-more x xs before next after s rest = λ files told apart.
-    let (mid, between, puts) = told-store next.files files x.name x.text (subst (λ z. Stores z next.files x.name x.text (Ok tt)) told s.stores) in
+all-more x xs before next after s rest = λ files modelled apart.
+    let (mid, between, puts) = told-store next.files files x.name x.text (subst (λ z. Stores z next.files x.name x.text (Ok tt)) modelled s.stores) in
     for-told after.files (λ new. AreStored mid new xs) (λ new. AreStored files new (x ∷ xs)) (λ new st. stored-more files mid new x xs puts apart.0 st) (rest mid between apart.1)
 
 pub up-more : (x y : NamedText) (xs : List NamedText) (before next after : Outside) → IsStored x before next → LeavesPart xs y next after → LeavesPart (x ∷ xs) y before after
-up-more x y xs before next after s rest = λ files told apart.
-    let (mid, between, puts) = told-store next.files files x.name x.text (subst (λ z. Stores z next.files x.name x.text (Ok tt)) told s.stores) in
+up-more x y xs before next after s rest = λ files modelled apart.
+    let (mid, between, puts) = told-store next.files files x.name x.text (subst (λ z. Stores z next.files x.name x.text (Ok tt)) modelled s.stores) in
     part-more files mid after x y xs puts apart.0 (rest mid between apart.1)
 
 -- The first text was not stored.
 pub part-here : (x : NamedText) (xs : List NamedText) (e : StoreErr) (before after : Outside) → Stores before.files after.files x.name x.text (Err e) → LeavesPart (x ∷ xs) x before after
-part-here x xs e before after stores = λ files told apart.
-    let (new, now, others) = failed-store after.files files x.name x.text e (subst (λ z. Stores z after.files x.name x.text (Err e)) told stores) in
+part-here x xs e before after stores = λ files modelled apart.
+    let (new, now, others) = failed-store after.files files x.name x.text e (subst (λ z. Stores z after.files x.name x.text (Err e)) modelled stores) in
     record {
       new = new;
-      now_told = now;
+      now_modelled = now;
       part = record {
         stored = [];
         failed = x;
@@ -130,8 +130,8 @@ part-here x xs e before after stores = λ files told apart.
 
 -- No text is left to store.
 pub all-none : (before after : Outside) → after.files ≡ before.files → LeavesAll [] before after
-all-none before after same = λ files told apart.
-    let here : after.files ≡ Some files = same ∙ told in
+all-none before after same = λ files modelled apart.
+    let here : after.files ≡ Some files = same ∙ modelled in
     subst (λ o. MatchOption o ⊥ (λ new. AreStored files new [])) (sym here) (record { hold = All-nil (λ x. bytes_of files x.name ≡ Some x.text); others = λ other k. refl })
 
 -- ---- the complete delivery
@@ -169,50 +169,50 @@ delivers-some (x ∷ xs) summary done before after status (inr n) = inr n
 -- ---- the folder's contract for several texts
 
 -- A text that the folder stored.
-stored-one : (x : NewFile) (old new : FolderTold) (sink : SinkTold) → StoresOne (stored_file x) old new → IsStored (named_text x) (outside old sink) (outside new sink)
+stored-one : (x : NewFile) (old new : FolderModel) (sink : SinkModel) → StoresOne (stored_file x) old new → IsStored (named_text x) (outside old sink) (outside new sink)
 stored-one x old new sink one = let same = one.faults in record { stores = one.stores; faults = omega arith; steady = one.steady; held = refl; cuts = refl; sure = refl }
 
 -- All of them.
-pub all-stored : (files : List NewFile) (old new : FolderTold) (sink : SinkTold) → AllStoredBy (map stored_file files) old new → AreAllStored (map named_text files) (outside old sink) (outside new sink)
-all-stored [] old new sink same = ap (λ (f : FolderTold). outside f sink) same
+pub all-stored : (files : List NewFile) (old new : FolderModel) (sink : SinkModel) → AllStoredBy (map stored_file files) old new → AreAllStored (map named_text files) (outside old sink) (outside new sink)
+all-stored [] old new sink same = ap (λ (f : FolderModel). outside f sink) same
 all-stored (x ∷ xs) old new sink all = (outside all.0 sink, stored-one x old all.0 sink all.1, all-stored xs all.0 new sink all.2)
 
 -- The first text that the folder did not store, and the line for it.
-not-stored-one : (x : NewFile) (why : StoreErr) (old new : FolderTold) (sink said : SinkTold) (status : ℕ) → FailsOne (stored_file x) why old new → ExplainsStore x.name.now why sink.held said.held sink.faults said.faults status
+not-stored-one : (x : NewFile) (why : StoreErr) (old new : FolderModel) (sink said : SinkModel) (status : ℕ) → FailsOne (stored_file x) why old new → ExplainsStore x.name.now why sink.held said.held sink.faults said.faults status
     → IsNotStored (named_text x) (outside old sink) (outside new said) status
-not-stored-one x Failed old new sink said status f e = Unwritten e.0 f.stores (f.failed refl) (λ steady. f.surely steady refl) e.1
+not-stored-one x Failed old new sink said status f e = Unwritten e.0 f.stores (f.failed refl) (λ steady. f.steady_never_fails steady refl) e.1
 not-stored-one x NoMemory old new sink said status f e = NoRoom e.0 f.stores e.1
 
-stops-there : (files : List NewFile) (place : ℕ) (why : StoreErr) (old between new : FolderTold) (sink said : SinkTold) (status : ℕ) (x : StoredFile) → slice_get (map stored_file files) place ≡ Some x → AllStoredBy (take place (map stored_file files)) old between
+stops-there : (files : List NewFile) (place : ℕ) (why : StoreErr) (old between new : FolderModel) (sink said : SinkModel) (status : ℕ) (x : StoredFile) → slice_get (map stored_file files) place ≡ Some x → AllStoredBy (take place (map stored_file files)) old between
     → FailsOne x why between new → ((y : NewFile) → slice_get files place ≡ Some y → ExplainsStore y.name.now why sink.held said.held sink.faults said.faults status)
     → StopsAtOne (map named_text files) (outside old sink) (outside new said) status
 stops-there [] place why old between new sink said status x there all fails explains = cc there
 stops-there (y ∷ ys) zero why old between new sink said status x there all fails explains =
-    inr (not-stored-one y why old new sink said status (subst (λ (f : FolderTold). FailsOne (stored_file y) why f new) all (subst (λ (z : StoredFile). FailsOne z why between new) (sym (some-is there)) fails)) (explains y refl))
+    inr (not-stored-one y why old new sink said status (subst (λ (f : FolderModel). FailsOne (stored_file y) why f new) all (subst (λ (z : StoredFile). FailsOne z why between new) (sym (some-is there)) fails)) (explains y refl))
   where
     some-is : {a b : StoredFile} → Some a ≡ Some b → a ≡ b
     some-is e = cc e
 stops-there (y ∷ ys) (suc n) why old between new sink said status x there all fails explains =
     inl (outside all.0 sink, stored-one y old all.0 sink all.1, stops-there ys n why all.0 between new sink said status x there all.2 fails explains)
 
-pub stops-stored : (files : List NewFile) (place : ℕ) (why : StoreErr) (old new : FolderTold) (sink said : SinkTold) (status : ℕ) → StopsAt (map stored_file files) place why old new
+pub stops-stored : (files : List NewFile) (place : ℕ) (why : StoreErr) (old new : FolderModel) (sink said : SinkModel) (status : ℕ) → StopsAt (map stored_file files) place why old new
     → ((y : NewFile) → slice_get files place ≡ Some y → ExplainsStore y.name.now why sink.held said.held sink.faults said.faults status)
     → StopsAtOne (map named_text files) (outside old sink) (outside new said) status
 stops-stored files place why old new sink said status s explains = stops-there files place why old s.between new sink said status s.file s.there s.before s.fails explains
 
 -- A successful store does not change the fault count.
-pub all-uncounted : (xs : List StoredFile) (old new : FolderTold) → AllStoredBy xs old new → new.faults ≡ old.faults
-all-uncounted [] old new same = ap (λ (f : FolderTold). f.faults) same
+pub all-uncounted : (xs : List StoredFile) (old new : FolderModel) → AllStoredBy xs old new → new.faults ≡ old.faults
+all-uncounted [] old new same = ap (λ (f : FolderModel). f.faults) same
 all-uncounted (x ∷ xs) old new all = all-uncounted xs all.0 new all.2 ∙ all.1.faults
 
-pub stops-counted : (xs : List StoredFile) (place : ℕ) (why : StoreErr) (old new : FolderTold) (sink said : SinkTold) (status : ℕ) (name : List ℕ) → StopsAt xs place why old new → ExplainsStore name why sink.held said.held sink.faults said.faults status
+pub stops-counted : (xs : List StoredFile) (place : ℕ) (why : StoreErr) (old new : FolderModel) (sink said : SinkModel) (status : ℕ) (name : List ℕ) → StopsAt xs place why old new → ExplainsStore name why sink.held said.held sink.faults said.faults status
     → AreFaultsCounted (outside old sink) (outside new said) status
 stops-counted xs place Failed old new sink said status name s e = record {
   folder = λ h. absurd (true≢false (sym (one-of (3 ∷ 4 ∷ []) status 4 e.0 refl) ∙ h));
   sink = λ h. absurd (off (0 ∷ 1 ∷ 11 ∷ []) status 4 h e.0 refl);
 }
 stops-counted xs place NoMemory old new sink said status name s e = record {
-  folder = λ h. s.fails.uncounted (λ x. cc x) ∙ all-uncounted (take place xs) old s.between s.before;
+  folder = λ h. s.fails.faults_unchanged (λ x. cc x) ∙ all-uncounted (take place xs) old s.between s.before;
   sink = λ h. absurd (off (0 ∷ 1 ∷ 11 ∷ []) status 8 h e.0 refl);
 }
 

@@ -66,4 +66,4 @@ status-by steps b is = ap (λ z. cond {A = ℕ} z 0 1) (none-undecided steps ∙
 
 -- A write that failed was of more bytes than the sink guarantees to take.
 pub cut-over : (sure n : ℕ) (e : Failed) → (n ≤ sure → IsOk {T = Unit {0}} (Err e)) → sure < n
-cut-over sure n e surely = elim (cases_lt sure n) [ inl over ↦ over | inr within ↦ absurd (false≢true (surely within)) ]
+cut-over sure n e steady_never_fails = elim (cases_lt sure n) [ inl over ↦ over | inr within ↦ absurd (false≢true (steady_never_fails within)) ]

@@ -6,10 +6,10 @@ use Rattle.constraint_files.specs.Reads.{Reads}
 use Rattle.constraint_files.specs.declared.error.ReadErr.{ReadErr}
 use Rattle.constraint_files.specs.declared.error.ReadErr.TheVariants.{Row, NoMemory as NoRoom}
 use Rattle.command_words.specs.declared.run_words.Input.{Input}
-use Rattle.commands.specs.declared.input_file.Stop.{Stop}
-use Rattle.commands.specs.declared.input_file.Stop.TheVariants.{CannotRead, Refused, NoMemory}
+use Rattle.commands.specs.declared.inputs.input_file.Stop.{Stop}
+use Rattle.commands.specs.declared.inputs.input_file.Stop.TheVariants.{CannotRead, Refused, NoMemory}
 use Rattle.commands.specs.Inputs.{Agrees, and_then, refused_by, rows_read}
-use Rattle.commands.specs.Pieces.{IsFed, IsHandedOut}
+use Rattle.commands.specs.Constraints.{IsFed, IsHandedOut}
 
 -- Whether the bytes fed since the start, and the bytes left, are those fed and left at the start.
 pub record IsFeeding {R : Type 0} (fed : List ℕ → Result R ReadErr) (before left : Option (List ℕ)) (start reader : R) : Type 0 where

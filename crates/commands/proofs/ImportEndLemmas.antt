@@ -13,15 +13,15 @@ use Rattle.auction_core.specs.declared.record.Ending.TheVariants.{Done}
 use Rattle.auction_core.specs.declared.record.Record.{Record}
 use Rattle.auction_core.specs.declared.record.Step.{Step}
 use Rattle.cert_types.specs.declared.outside.OutsideProof.{OutsideProof}
-use Rattle.transcript_text.specs.Named.{IsHeld}
-use Rattle.open_tests.specs.Queries.{step_numbered}
-use Rattle.open_tests.specs.Settled.{IsLeftOpen, RefutesStep, decided_row, settled_by, without_test}
-use Rattle.open_tests.specs.Settling.{SettleFails, cut_proof, settled_text}
-use Rattle.open_tests.specs.declared.settle.SettleErr.{SettleErr}
-use Rattle.open_tests.specs.declared.settle.SettleErr.TheVariants.{Unread, NoRefutation, NoMemory as NoRoom}
-use Rattle.open_tests.proofs.SettleLemmas.{said-refutes, settled-said}
-use Rattle.open_tests.proofs.RecordLemmas.{settled-clock, settled-left}
-use Rattle.open_tests.proofs.RowLemmas.{rows-decided}
+use Rattle.transcript_text.specs.RoundTrip.{IsHeld}
+use Rattle.undecided_tests.specs.Queries.{step_numbered}
+use Rattle.undecided_tests.specs.Settled.{IsLeftOpen, RefutesStep, decided_row, settled_by, without_test}
+use Rattle.undecided_tests.specs.Settling.{SettleFails, cut_proof, settled_text}
+use Rattle.undecided_tests.specs.declared.settle.SettleErr.{SettleErr}
+use Rattle.undecided_tests.specs.declared.settle.SettleErr.TheVariants.{Unread, NoRefutation, NoMemory as NoRoom}
+use Rattle.undecided_tests.proofs.SettleLemmas.{said-refutes, settled-said}
+use Rattle.undecided_tests.proofs.RecordLemmas.{settled-clock, settled-left}
+use Rattle.undecided_tests.proofs.RowLemmas.{rows-decided}
 use Rattle.commands.specs.declared.inputs.Inputs.{Inputs}
 use Rattle.commands.specs.declared.settling.StepFault.{StepFault}
 use Rattle.commands.specs.declared.settling.StepFault.TheVariants.{NotUndecided}
@@ -29,11 +29,11 @@ use Rattle.commands.specs.Delivery.{Delivers}
 use Rattle.commands.specs.Records.{IsRecordIn, done_status, outcome, summary_in}
 use Rattle.commands.specs.Settling.{open_fault, step_line}
 use Rattle.commands.specs.Ends.{ImportEnds, IsFileHeld, IsShown, import_texts}
-use Rattle.commands.specs.Ends.ImportEnds.{ImportStarved, NoLog, NoOpenStep, NotSettled, Settled}
+use Rattle.commands.specs.Ends.ImportEnds.{ImportOutOfMemory, NoLog, NoOpenStep, NotSettled, Settled}
 use Rattle.commands.specs.Ends.IsNotLoaded.{Unloaded, LongText}
 use Rattle.commands.specs.Faults.{AreFaultsCounted}
-use Rattle.commands.specs.Outside.{IsSaid, Outside}
-use Rattle.commands.specs.Transcripts.{ExplainsLoad, ExplainsLog, IsFileRead, IsSettling}
+use Rattle.commands.specs.Outside.{IsLinePrinted, Outside}
+use Rattle.commands.specs.Shown.{ExplainsLoad, ExplainsLog, IsFileRead, IsSettling}
 use Rattle.command_words.specs.Words.{ImportNames}
 use Rattle.commands.proofs.DeliveryLemmas.{IsSince, delivers-since}
 use Rattle.commands.proofs.Statuses.{off, one-of}
@@ -105,7 +105,7 @@ pub no-log : (names : ImportNames) (before after : Outside) (status : ℕ) (foun
     → found ≡ None → after.files ≡ before.files → ImportEnds names before after status found
 no-log names before after status found inputs rec Failed s is h e none files = NoLog inputs rec s is (Unloaded e.0 h.0 h.1 e.1) none files
 no-log names before after status found inputs rec TooLong s is h e none files = NoLog inputs rec s is (LongText e.0 h e.1) none files
-no-log names before after status found inputs rec NoLoad s is h e none files = ImportStarved (record { status_is = e.0; found_is = none; line = e.1; files = files })
+no-log names before after status found inputs rec NoLoad s is h e none files = ImportOutOfMemory (record { status_is = e.0; found_is = none; line = e.1; files = files })
 
 -- The folder's fault count rose only at status 3.
 pub no-log-counted : (name : List ℕ) (before after : Outside) (status : ℕ) (why : LoadErr) → ExplainsLoad name why before.held after.held before.cuts after.cuts status → (why ≢ Failed → after.faults ≡ before.faults) → AreFaultsCounted before after status
@@ -122,7 +122,7 @@ pub not-settled : (names : ImportNames) (before after : Outside) (status : ℕ) 
     → found ≡ None → after.files ≡ before.files → ImportEnds names before after status found
 not-settled names before after status found inputs rec log (Unread why) s is held h e none files = NotSettled inputs rec log (Unread why) s is held h e.0 none e.1 files
 not-settled names before after status found inputs rec log NoRefutation s is held h e none files = NotSettled inputs rec log NoRefutation s is held h e.0 none e.1 files
-not-settled names before after status found inputs rec log NoRoom s is held h e none files = ImportStarved (record { status_is = e.0; found_is = none; line = e.1; files = files })
+not-settled names before after status found inputs rec log NoRoom s is held h e none files = ImportOutOfMemory (record { status_is = e.0; found_is = none; line = e.1; files = files })
 
 -- ---- the state before
 
@@ -132,9 +132,9 @@ import-since names before between after status found same ends = subst (λ (b : 
 
 -- There is no such step to settle, and a line says so.
 pub no-open-step : (names : ImportNames) (before between after : Outside) (status : ℕ) (found : Option Record) (inputs : Inputs) (rec : Record) (fault : StepFault) → IsShown names.shown before inputs rec → open_fault (step_numbered rec.steps names.step) ≡ Some fault
-    → status ≡ 10 → found ≡ None → between ≡ before → IsSaid between after (step_line names.step fault) → after.files ≡ between.files → ImportEnds names before after status found
+    → status ≡ 10 → found ≡ None → between ≡ before → IsLinePrinted between after (step_line names.step fault) → after.files ≡ between.files → ImportEnds names before after status found
 no-open-step names before between after status found inputs rec fault s is ten none same said files =
-    NoOpenStep inputs rec fault s is ten none (subst (λ (b : Outside). IsSaid b after (step_line names.step fault)) same said) (files ∙ ap (λ (o : Outside). o.files) same)
+    NoOpenStep inputs rec fault s is ten none (subst (λ (b : Outside). IsLinePrinted b after (step_line names.step fault)) same said) (files ∙ ap (λ (o : Outside). o.files) same)
 
 pub no-log-since : (names : ImportNames) (before between after : Outside) (status said : ℕ) (found : Option Record) (inputs : Inputs) (rec : Record) (why : LoadErr) → IsShown names.shown before inputs rec → open_fault (step_numbered rec.steps names.step) ≡ None
     → between ≡ before → IsFileRead between.files between.steady between.faults after.faults names.proof (Err why) → ExplainsLoad names.proof why between.held after.held between.cuts after.cuts said

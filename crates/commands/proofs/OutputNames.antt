@@ -8,9 +8,9 @@ use Rattle.std.proofs.lemmas.List.Sums.{sum_by-append, sum_by-cons}
 use Rattle.std.proofs.lemmas.Slice.Eq.{bytes_eq-Decides}
 use Rattle.auction_core.proofs.Finds.{find_cases}
 use Rattle.pack_defs.proofs.Members.{Contains-here, Contains-there, list_any-from}
-use Rattle.command_words.specs.Words.{ImportNames, MakeNames, ResumeNames, RunNames, imported_names, is_repeated_among, is_repeated_in, made_names, run_names_given, output_names, owners_given, repeated_import, repeated_made, repeated_output, repeated_resume, resumed_names}
+use Rattle.command_words.specs.Words.{ImportNames, MakeNames, ResumeNames, RunNames, imported_names, is_repeated_among, is_repeated_in, make_output_names, run_names_given, output_names, owners_given, repeated_import, repeated_made, repeated_output, repeated_resume, resumed_names}
 use Rattle.commands.specs.Ends.{output_texts, pair_of_texts}
-use Rattle.commands.specs.Made.{input_texts_under}
+use Rattle.commands.specs.Make.{input_texts_under}
 use Rattle.commands.proofs.DeliveryLemmas.{AreApart}
 use Rattle.transcript_text.proofs.FieldReads.{same-bytes}
 
@@ -69,7 +69,7 @@ twice-among given xs ys zs a b whole same =
 pub own-made : (names : MakeNames) (domain_file row_file scenario_file : List ℕ) → repeated_made names ≡ None → AreApart (input_texts_under names.outputs domain_file row_file scenario_file)
 unfolding repeated_made
 own-made names domain_file row_file scenario_file once =
-    let given = made_names names in
+    let given = make_output_names names in
     let twice : List ℕ → Bool = is_repeated_among given in
     let d = names.outputs.domains in
     let r = names.outputs.rows in

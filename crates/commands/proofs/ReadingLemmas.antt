@@ -3,7 +3,7 @@ use Rattle.std.proofs.Common.{◌≡◌, ◌∙◌, ℕ, List, [], ◌∷◌, le
 use Rattle.std.specs.Prelude.{IfOk, MatchOption, Option, Some, None, Result, Ok, Err, IsSome, ⊤}
 use Rattle.std.proofs.lemmas.Bool.{cases_Bool}
 use Rattle.constraint_files.specs.Domains.{domains_of}
-use Rattle.constraint_files.specs.Rows.{PairsView, pairs_of}
+use Rattle.constraint_files.specs.PairTable.{PairsView, pairs_of}
 use Rattle.constraint_files.specs.declared.error.ReadErr.{ReadErr}
 use Rattle.constraint_files.specs.declared.error.ReadErr.TheVariants.{Row, NoMemory as NoRoom}
 use Rattle.outside_io.specs.Files.{StoredFile, bytes_of}
@@ -20,17 +20,17 @@ use Rattle.pack_defs.specs.Scenario.{IsWithinLimits, StationsAscend, facilities,
 use Rattle.scenario_json.specs.declared.error.ScenarioErr.{ScenarioErr}
 use Rattle.scenario_json.specs.declared.join.JoinErr.{JoinErr}
 use Rattle.scenario_json.specs.declared.join.JoinErr.TheVariants.{MissingDomain, NoMemory as NoSpace}
-use Rattle.scenario_json.specs.Joined.{book_unless, first_missing, joined}
+use Rattle.scenario_json.specs.Join.{book_unless, first_missing, joined}
 use Rattle.scenario_json.specs.ScenarioOf.{scenario_of}
 use Rattle.scenario_json.proofs.Limits.{read-limits, read-values}
 use Rattle.commands.specs.declared.inputs.Inputs.{Inputs}
-use Rattle.commands.specs.declared.sources.Sources.{Sources}
+use Rattle.commands.specs.declared.inputs.sources.Sources.{Sources}
 use Rattle.command_words.specs.declared.run_words.Input.{Input}
 use Rattle.command_words.specs.declared.run_words.Input.TheVariants.{Domains, Rows, Scenario as ScenarioFile, Owners as OwnersFile}
-use Rattle.commands.specs.declared.input_file.Stop.{Stop}
-use Rattle.commands.specs.declared.input_file.Stop.TheVariants.{CannotRead}
-use Rattle.commands.specs.Inputs.{and_then, bytes_within, file_limit, file_of, inputs_by, inputs_from, inputs_of, live_inputs, owners_read, rows_read, said_in, scenario_read, sources_of, valued_of, with_said}
-use Rattle.commands.specs.Promises.{AreThere}
+use Rattle.commands.specs.declared.inputs.input_file.Stop.{Stop}
+use Rattle.commands.specs.declared.inputs.input_file.Stop.TheVariants.{CannotRead}
+use Rattle.commands.specs.Inputs.{and_then, bytes_within, file_limit, file_of, inputs_by, inputs_from, inputs_of, live_inputs, owners_read, rows_read, owners_in, scenario_read, sources_of, valued_of, with_owners_file}
+use Rattle.commands.specs.Promises.{AreInputsPresent}
 use Rattle.command_words.specs.Words.{InputNames}
 
 -- A joined book is of exactly the scenario's stations.
@@ -97,10 +97,10 @@ can_valued : (inputs : Inputs) → CanRead {A = Inputs} (Ok inputs)
 unfolding CanRead
 can_valued inputs i e = cc
 
-can_said : (files : List StoredFile) (name : Option (List ℕ)) (inputs : Inputs) → MatchOption name ⊤ (λ name. IsSome (bytes_of files name)) → CanRead (with_said files name inputs)
+can_said : (files : List StoredFile) (name : Option (List ℕ)) (inputs : Inputs) → MatchOption name ⊤ (λ name. IsSome (bytes_of files name)) → CanRead (with_owners_file files name inputs)
 can_said files None inputs h = can_valued inputs
 can_said files (Some name) inputs h =
-    goes_on (said_in files name inputs.scenario) _
+    goes_on (owners_in files name inputs.scenario) _
     (goes_on (file_of files name OwnersFile) (λ bytes. owners_read (owners_of bytes (length (falls inputs.scenario)) (facilities inputs.scenario))) (can_bytes OwnersFile (bytes_of files name) h)
     (λ bytes. can_owners (owners_of bytes (length (falls inputs.scenario)) (facilities inputs.scenario))))
     (λ lines. can_live inputs lines)
@@ -109,7 +109,7 @@ can_sources : (sources : Sources) → CanRead {A = Sources} (Ok sources)
 unfolding CanRead
 can_sources sources i e = cc
 
-can_files : (files : List StoredFile) (names : InputNames) → AreThere files names → CanRead (sources_of files names)
+can_files : (files : List StoredFile) (names : InputNames) → AreInputsPresent files names → CanRead (sources_of files names)
 unfolding sources_of
 can_files files names h =
     goes_on (and_then (file_of files names.domains Domains) (λ bytes. rows_read Domains (domains_of bytes))) _
@@ -120,14 +120,14 @@ can_files files names h =
     (goes_on (file_of files names.scenario ScenarioFile) (λ bytes. scenario_read (scenario_of bytes)) (can_bytes ScenarioFile (bytes_of files names.scenario) h.scenario) (λ bytes. can_scenario (scenario_of bytes))) (λ sc.
     can_sources (record { domains = domains; pairs = pairs; scenario = sc }))))
 
-can_value : (files : List StoredFile) (names : InputNames) → AreThere files names → CanRead (valued_of files names)
+can_value : (files : List StoredFile) (names : InputNames) → AreInputsPresent files names → CanRead (valued_of files names)
 can_value files names h =
     goes_on (sources_of files names) inputs_by (can_files files names h) (λ s. can_join s.scenario s.pairs (joined s.scenario s.domains s.pairs.list))
 
-pub can-read : (files : List StoredFile) (names : InputNames) (i : Input) → AreThere files names → inputs_of files names ≡ Err (CannotRead i) → ⊥
+pub can-read : (files : List StoredFile) (names : InputNames) (i : Input) → AreInputsPresent files names → inputs_of files names ≡ Err (CannotRead i) → ⊥
 unfolding inputs_of CanRead
 can-read files names i h =
-    goes_on (valued_of files names) (with_said files names.owners) (can_value files names h) (λ inputs. can_said files names.owners inputs h.owners) i
+    goes_on (valued_of files names) (with_owners_file files names.owners) (can_value files names h) (λ inputs. can_said files names.owners inputs h.owners) i
 
 -- ---- accepted inputs
 
@@ -183,20 +183,20 @@ valued-scenario files names inputs e =
 
 -- Accepted inputs are what the first three files hold, except for the owners' answers.
 pub accepted-valued : (files : List StoredFile) (names : InputNames) (inputs : Inputs) → inputs_of files names ≡ Ok inputs →
-    (valued : Inputs) × (valued_of files names ≡ Ok valued) × (with_said files names.owners valued ≡ Ok inputs)
+    (valued : Inputs) × (valued_of files names ≡ Ok valued) × (with_owners_file files names.owners valued ≡ Ok inputs)
 unfolding inputs_of
-accepted-valued files names inputs e = then-ok (valued_of files names) (with_said files names.owners) inputs e
+accepted-valued files names inputs e = then-ok (valued_of files names) (with_owners_file files names.owners) inputs e
 
 -- The owners' answers, if their file was accepted.
-pub said-ok : (files : List StoredFile) (name : List ℕ) (valued inputs : Inputs) → with_said files (Some name) valued ≡ Ok inputs →
-    (lines : List OwnerLine) × (said_in files name valued.scenario ≡ Ok lines) × (inputs ≡ live_inputs valued lines)
+pub said-ok : (files : List StoredFile) (name : List ℕ) (valued inputs : Inputs) → with_owners_file files (Some name) valued ≡ Ok inputs →
+    (lines : List OwnerLine) × (owners_in files name valued.scenario ≡ Ok lines) × (inputs ≡ live_inputs valued lines)
 said-ok files name valued inputs e =
-    let (lines, said, same) = then-ok {A = List OwnerLine} {B = Inputs} (said_in files name valued.scenario) (λ lines. Ok (live_inputs valued lines)) inputs e in
+    let (lines, said, same) = then-ok {A = List OwnerLine} {B = Inputs} (owners_in files name valued.scenario) (λ lines. Ok (live_inputs valued lines)) inputs e in
     let is : inputs ≡ live_inputs valued lines = cc in
     (lines, said, is)
 
 -- So only the owners can differ.
-pub said-else : (files : List StoredFile) (name : Option (List ℕ)) (valued inputs : Inputs) → with_said files name valued ≡ Ok inputs →
+pub said-else : (files : List StoredFile) (name : Option (List ℕ)) (valued inputs : Inputs) → with_owners_file files name valued ≡ Ok inputs →
     (said : Option (List OwnerLine)) × (inputs ≡ record valued { scenario = with_owners valued.scenario said })
 said-else files None valued inputs e = let same : inputs ≡ valued = cc in (valued.scenario.owners, same)
 said-else files (Some name) valued inputs e = let (lines, said, same) = said-ok files name valued inputs e in (Some lines, same)
@@ -228,6 +228,6 @@ valued-values files names inputs e =
 pub accepted-values : (files : List StoredFile) (names : InputNames) (inputs : Inputs) → names.owners ≡ None → inputs_of files names ≡ Ok inputs → inputs.scenario.owners ≡ None
 accepted-values files names inputs none e =
     let (valued, read, more) = accepted-valued files names inputs e in
-    let as_read : with_said files None valued ≡ Ok inputs = subst (λ o. with_said files o valued ≡ Ok inputs) none more in
+    let as_read : with_owners_file files None valued ≡ Ok inputs = subst (λ o. with_owners_file files o valued ≡ Ok inputs) none more in
     let same : valued ≡ inputs = cc in
     subst (λ (i : Inputs). i.scenario.owners ≡ None) same (valued-values files names valued read)

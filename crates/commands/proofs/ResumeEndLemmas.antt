@@ -23,8 +23,8 @@ use Rattle.auction_core.specs.declared.record.Step.{Step}
 use Rattle.auction_core.specs.Auction.{AuctionView}
 use Rattle.auction_core.specs.Backed.{IsBacked, ending_of, is_outside}
 use Rattle.auction_core.specs.LogNumbers.{steps_in}
-use Rattle.auction_core.specs.NotShown.{NotShown, kept_as, not_kept, not_shown, order_kept, start_fault, started_fault, step_fault_or, within_steps}
-use Rattle.auction_core.specs.Postings.{GoesOnIn}
+use Rattle.auction_core.specs.NotShown.{NotShown, as_transcript, not_kept, not_shown, order_kept, start_fault, started_fault, step_fault_or, within_steps}
+use Rattle.auction_core.specs.Postings.{ContinuesIn}
 use Rattle.auction_core.specs.Prefix.{resumed}
 use Rattle.auction_core.specs.Rule.{IsAuction}
 use Rattle.auction_core.proofs.Prefixes.{resumed-goes}
@@ -32,68 +32,68 @@ use Rattle.transcript_text.specs.declared.error.TextErr.{TextErr}
 use Rattle.transcript_text.specs.declared.error.TextErr.TheVariants.{Version, BadLine, Truncated, NoMemory as NoRoom}
 use Rattle.transcript_text.specs.PrefixReading.{prefix_of}
 use Rattle.transcript_text.specs.Steps.{Fails}
-use Rattle.commands.specs.declared.fault.TranscriptFault.TheVariants.{Unshown}
+use Rattle.commands.specs.declared.messages.fault.TranscriptFault.TheVariants.{Unshown}
 use Rattle.commands.specs.declared.inputs.Inputs.{Inputs}
-use Rattle.commands.specs.declared.shown.Denied.{Denied}
-use Rattle.commands.specs.declared.shown.Denied.TheVariants.{Fault, NoMemory}
-use Rattle.commands.specs.Ends.{AreInputsOf, Concludes, IsStarved, IsTextHeld}
+use Rattle.commands.specs.declared.shown.RecordErr.{RecordErr}
+use Rattle.commands.specs.declared.shown.RecordErr.TheVariants.{Fault, NoMemory}
+use Rattle.commands.specs.Ends.{AreInputsOf, Concludes, EndsOutOfMemory, IsTextHeld}
 use Rattle.commands.specs.Ends.IsNotLoaded.{Unloaded, LongText}
 use Rattle.commands.specs.Outside.{Outside}
 use Rattle.commands.specs.ResumeEnds.{IsResumable, ResumeEnds}
-use Rattle.commands.specs.ResumeEnds.ResumeEnds.{ResumeStarved, PrefixNotLoaded, NotBegun, WentOn}
-use Rattle.commands.specs.Resumption.{GoesOnFrom, IsResumption, StandsBehind, begun, begun_by, kept_or}
-use Rattle.commands.specs.Transcripts.{ExplainsDenied, ExplainsLoad, IsTextRead, not_read}
+use Rattle.commands.specs.ResumeEnds.ResumeEnds.{ResumeOutOfMemory, PrefixNotLoaded, PrefixRejected, Continued}
+use Rattle.commands.specs.Resume.{ContinuesFrom, IsResumption, IsAfterPrefix, begun, kept_prefix, kept_or}
+use Rattle.commands.specs.Shown.{ExplainsRecordErr, ExplainsLoad, IsTextRead, not_read}
 use Rattle.commands.specs.Verified.{CanBeNamed}
-use Rattle.command_words.specs.Words.{ResumeNames, begun_names}
-use Rattle.commands.proofs.SaysLemmas.{rises-before}
+use Rattle.command_words.specs.Words.{ResumeNames, resume_input_names}
+use Rattle.commands.proofs.MessageLemmas.{rises-before}
 
 -- ---- the beginning
 
 -- The auction in the state after the kept steps.
-pub stands-behind : (inputs : Inputs) (kept : Prefix) (auction : AuctionView) → not_kept inputs.scenario inputs.book kept ≡ None → StandsBehind inputs kept auction → IsResumption inputs (begun_by inputs (Ok kept)) (Ok auction)
+pub stands-behind : (inputs : Inputs) (kept : Prefix) (auction : AuctionView) → not_kept inputs.scenario inputs.book kept ≡ None → IsAfterPrefix inputs kept auction → IsResumption inputs (kept_prefix inputs (Ok kept)) (Ok auction)
 stands-behind inputs kept auction none behind = (kept, ap (λ o. kept_or o kept) none, behind)
 
 -- The first kept step that is not shown.
-pub not-behind : (inputs : Inputs) (kept : Prefix) (step : ℕ) (why : ShownWhy) → not_kept inputs.scenario inputs.book kept ≡ Some (record { step = step; why = why }) → IsResumption inputs (begun_by inputs (Ok kept)) (Err (Fault (Unshown step why)))
+pub not-behind : (inputs : Inputs) (kept : Prefix) (step : ℕ) (why : ShownWhy) → not_kept inputs.scenario inputs.book kept ≡ Some (record { step = step; why = why }) → IsResumption inputs (kept_prefix inputs (Ok kept)) (Err (Fault (Unshown step why)))
 not-behind inputs kept step why is = ap (λ o. kept_or o kept) is
 
 -- The result for what was read is the result for the text.
-pub read-begun : (inputs : Inputs) (text : List ℕ) (kept : Prefix) (result : Result AuctionView Denied) → prefix_of inputs.scenario inputs.book text ≡ Ok kept →
-    IsResumption inputs (begun_by inputs (Ok kept)) result → IsResumption inputs (begun inputs text) result
+pub read-begun : (inputs : Inputs) (text : List ℕ) (kept : Prefix) (result : Result AuctionView RecordErr) → prefix_of inputs.scenario inputs.book text ≡ Ok kept →
+    IsResumption inputs (kept_prefix inputs (Ok kept)) result → IsResumption inputs (begun inputs text) result
 unfolding begun
-read-begun inputs text kept result is h = subst (λ o. IsResumption inputs (begun_by inputs o) result) (sym is) h
+read-begun inputs text kept result is h = subst (λ o. IsResumption inputs (kept_prefix inputs o) result) (sym is) h
 
 -- A text that was not read.
 pub unread-begun : (inputs : Inputs) (text : List ℕ) (why : TextErr) → Fails why (prefix_of inputs.scenario inputs.book text) → IsResumption inputs (begun inputs text) (Err (not_read why))
 unfolding begun
-unread-begun inputs text Version is = ap (begun_by inputs) is
-unread-begun inputs text (BadLine n) is = ap (begun_by inputs) is
-unread-begun inputs text Truncated is = ap (begun_by inputs) is
+unread-begun inputs text Version is = ap (kept_prefix inputs) is
+unread-begun inputs text (BadLine n) is = ap (kept_prefix inputs) is
+unread-begun inputs text Truncated is = ap (kept_prefix inputs) is
 unread-begun inputs text NoRoom is = tt
 
 -- ---- the endings before an auction continues
 
 -- The ending of a beginning that was not loaded.
-pub prefix-unloaded : (names : ResumeNames) (before after : Outside) (status : ℕ) (found : Option Record) (inputs : Inputs) (why : LoadErr) (told : Option (List StoredFile)) (steady : Bool) (faults come : ℕ) →
-    AreInputsOf names.run_files.inputs before inputs → told ≡ before.files → steady ≡ before.steady → before.faults ≤ faults →
-    IsTextRead inputs told steady faults after.faults come names.prefix (Err why) →
+pub prefix-unloaded : (names : ResumeNames) (before after : Outside) (status : ℕ) (found : Option Record) (inputs : Inputs) (why : LoadErr) (modelled : Option (List StoredFile)) (steady : Bool) (faults come : ℕ) →
+    AreInputsOf names.run_files.inputs before inputs → modelled ≡ before.files → steady ≡ before.steady → before.faults ≤ faults →
+    IsTextRead inputs modelled steady faults after.faults come names.prefix (Err why) →
     ExplainsLoad names.prefix why before.held after.held before.cuts after.cuts status →
     found ≡ None → after.files ≡ before.files → ResumeEnds names before after status found
-prefix-unloaded names before after status found inputs Failed told steady faults come are is same kept h e none files =
+prefix-unloaded names before after status found inputs Failed modelled steady faults come are is same kept h e none files =
     PrefixNotLoaded inputs are (Unloaded e.0 (rises-before before.faults faults after.faults kept h.0) (λ own at still. h.1 own (is ∙ at) (same ∙ still)) e.1) none files
-prefix-unloaded names before after status found inputs TooLong told steady faults come are is same kept h e none files =
+prefix-unloaded names before after status found inputs TooLong modelled steady faults come are is same kept h e none files =
     PrefixNotLoaded inputs are (LongText e.0 (λ own at. h own (is ∙ at)) e.1) none files
-prefix-unloaded names before after status found inputs NoLoad told steady faults come are is same kept h e none files =
-    ResumeStarved (record { status_is = e.0; found_is = none; line = e.1; files = files })
+prefix-unloaded names before after status found inputs NoLoad modelled steady faults come are is same kept h e none files =
+    ResumeOutOfMemory (record { status_is = e.0; found_is = none; line = e.1; files = files })
 
 -- The ending of a beginning that no auction continues.
-pub not-begun : (names : ResumeNames) (before after : Outside) (status : ℕ) (found : Option Record) (inputs : Inputs) (text : List ℕ) (why : Denied) →
-    AreInputsOf names.run_files.inputs before inputs → CanBeNamed inputs → IsTextHeld (begun_names names) before text → IsResumption inputs (begun inputs text) (Err why) →
-    ExplainsDenied names.prefix why before.held after.held before.cuts after.cuts status →
+pub not-begun : (names : ResumeNames) (before after : Outside) (status : ℕ) (found : Option Record) (inputs : Inputs) (text : List ℕ) (why : RecordErr) →
+    AreInputsOf names.run_files.inputs before inputs → CanBeNamed inputs → IsTextHeld (resume_input_names names) before text → IsResumption inputs (begun inputs text) (Err why) →
+    ExplainsRecordErr names.prefix why before.held after.held before.cuts after.cuts status →
     found ≡ None → after.files ≡ before.files → ResumeEnds names before after status found
-not-begun names before after status found inputs text (Fault fault) are can held is e none files = NotBegun inputs text fault are can held is e.0 none e.1 files
+not-begun names before after status found inputs text (Fault fault) are can held is e none files = PrefixRejected inputs text fault are can held is e.0 none e.1 files
 not-begun names before after status found inputs text NoMemory are can held is e none files =
-    ResumeStarved (record { status_is = e.0; found_is = none; line = e.1; files = files })
+    ResumeOutOfMemory (record { status_is = e.0; found_is = none; line = e.1; files = files })
 
 -- ---- the auction that continues
 
@@ -102,7 +102,7 @@ start-kept None rec h = tt
 start-kept (Some shown) rec h = h shown refl
 
 -- A record that continues the auction continues what was kept.
-pub goes-from : (inputs : Inputs) (kept : Prefix) (auction : AuctionView) (rec : Record) → IsAuction inputs.scenario inputs.book → StandsBehind inputs kept auction → GoesOnIn auction.state rec → GoesOnFrom kept rec
+pub goes-from : (inputs : Inputs) (kept : Prefix) (auction : AuctionView) (rec : Record) → IsAuction inputs.scenario inputs.book → IsAfterPrefix inputs kept auction → ContinuesIn auction.state rec → ContinuesFrom kept rec
 goes-from inputs kept auction rec a behind goes =
     let sc = inputs.scenario in
     let book = inputs.book in
@@ -110,7 +110,7 @@ goes-from inputs kept auction rec a behind goes =
     let steps : List Step = steps_in kept.steps in
     let outside_step : Step → Bool = λ x. is_outside x.shown in
     let g = resumed-goes sc book order kept.start steps a behind.is_prefix in
-    let h : GoesOnIn (resumed sc book order kept.start steps) rec = subst (λ state. GoesOnIn state rec) behind.state goes in
+    let h : ContinuesIn (resumed sc book order kept.start steps) rec = subst (λ state. ContinuesIn state rec) behind.state goes in
     record {
       order = h.order ∙ g.order;
       start = start-kept kept.start rec (λ shown is. h.start shown (g.start shown is));
@@ -121,12 +121,12 @@ goes-from inputs kept auction rec a behind goes =
 
 -- The ending of an auction that continues.
 pub went-on : (names : ResumeNames) (before between after : Outside) (status : ℕ) (found : Option Record) (inputs : Inputs) (auction : AuctionView) (rec : Record) →
-    IsResumable names before inputs auction → between ≡ before → ((kept : Prefix) → StandsBehind inputs kept auction → GoesOnFrom kept rec) →
-    IsStarved between after status found ⊎ Concludes rec.order names.run_files inputs rec between after status found → ResumeEnds names before after status found
-went-on names before between after status found inputs auction rec r same goes (inl s) = ResumeStarved (subst (λ (b : Outside). IsStarved b after status found) same s)
+    IsResumable names before inputs auction → between ≡ before → ((kept : Prefix) → IsAfterPrefix inputs kept auction → ContinuesFrom kept rec) →
+    EndsOutOfMemory between after status found ⊎ Concludes rec.order names.run_files inputs rec between after status found → ResumeEnds names before after status found
+went-on names before between after status found inputs auction rec r same goes (inl s) = ResumeOutOfMemory (subst (λ (b : Outside). EndsOutOfMemory b after status found) same s)
 went-on names before between after status found inputs auction rec r same goes (inr c) =
-    let from : GoesOnFrom r.kept rec = goes r.kept r.behind in
-    WentOn inputs r.text r.kept rec r.accepted r.named r.held r.sound from
+    let from : ContinuesFrom r.kept rec = goes r.kept r.behind in
+    Continued inputs r.text r.kept rec r.accepted r.named r.held r.sound from
     (subst (λ (b : Outside). Concludes (order_kept r.kept) names.run_files inputs rec b after status found) same
     (subst (λ o. Concludes o names.run_files inputs rec between after status found) from.order c))
 
@@ -137,7 +137,7 @@ none-of-kept : (o : Option NotShown) (own kept : Prefix) → kept_or o own ≡ O
 none-of-kept None own kept e = (refl, cc)
 none-of-kept (Some first) own kept e = cc
 
-kept-read : (inputs : Inputs) (r : Result Prefix TextErr) (kept : Prefix) → begun_by inputs r ≡ Ok kept → not_kept inputs.scenario inputs.book kept ≡ None
+kept-read : (inputs : Inputs) (r : Result Prefix TextErr) (kept : Prefix) → kept_prefix inputs r ≡ Ok kept → not_kept inputs.scenario inputs.book kept ≡ None
 kept-read inputs (Ok own) kept e =
     let both = none-of-kept (not_kept inputs.scenario inputs.book own) own kept e in
     subst (λ p. not_kept inputs.scenario inputs.book p ≡ None) both.1 both.0
@@ -170,11 +170,11 @@ unfolding not_kept not_shown
 kept-start sc book kept None shown is none e = cc
 kept-start sc book kept (Some own) shown is none e =
     let same : own ≡ shown = cc in
-    let fault : started_fault sc book kept.ended (kept_as kept own) ≡ None = rw is at none in
+    let fault : started_fault sc book kept.ended (as_transcript kept own) ≡ None = rw is at none in
     subst (λ s. ending_of s ≡ Done) same (start-fits sc book own (no-start-fault (start_fault sc book own) _ kept.ended _ fault))
 
 -- If the auction ended at its start, the beginning that it continued has no start.
-pub no-verdict : (inputs : Inputs) (text : List ℕ) (kept : Prefix) (rec : Record) (order : Order) (ending : Ending) → begun inputs text ≡ Ok kept → GoesOnFrom kept rec → IsBacked inputs.scenario inputs.book order rec → rec.ending ≡ ending → (ending ≡ Done → ⊥) →
+pub no-verdict : (inputs : Inputs) (text : List ℕ) (kept : Prefix) (rec : Record) (order : Order) (ending : Ending) → begun inputs text ≡ Ok kept → ContinuesFrom kept rec → IsBacked inputs.scenario inputs.book order rec → rec.ending ≡ ending → (ending ≡ Done → ⊥) →
     kept.start ≡ None
 no-verdict inputs text kept rec order ending is goes backed ends other = by kept.start refl goes.start
   where

@@ -4,9 +4,9 @@ use Rattle.auction_core.specs.Backed.{undecided_of}
 use Rattle.auction_core.specs.declared.record.Record.{Record}
 use Rattle.pack_defs.specs.declared.order.Order.{Order}
 use Rattle.commands.specs.declared.inputs.Inputs.{Inputs}
-use Rattle.commands.specs.Ends.{AreInputsOf, Concludes, IsStarved, RunEnds, auction_texts}
+use Rattle.commands.specs.Ends.{AreInputsOf, Concludes, EndsOutOfMemory, RunEnds, auction_texts}
 use Rattle.commands.specs.Ends.Concludes.{Unfit, StartOpen, Delivered}
-use Rattle.commands.specs.Ends.RunEnds.{RunStarved, Concluded}
+use Rattle.commands.specs.Ends.RunEnds.{RunOutOfMemory, Concluded}
 use Rattle.commands.specs.Outside.{Outside}
 use Rattle.commands.specs.Records.{IsRecordBy, done_status, run_order, summary_in}
 use Rattle.command_words.specs.Words.{RunNames}
@@ -14,7 +14,7 @@ use Rattle.commands.proofs.DeliveryLemmas.{IsSince, delivers-since}
 use Rattle.commands.proofs.EndLemmas.{ended-order}
 
 -- Memory ran out after the reading.
-pub starved-since : (before between after : Outside) (status : ℕ) (found : Option Record) → IsSince before between → IsStarved between after status found → IsStarved before after status found
+pub starved-since : (before between after : Outside) (status : ℕ) (found : Option Record) → IsSince before between → EndsOutOfMemory between after status found → EndsOutOfMemory before after status found
 starved-since before between after status found s h =
     let said = h.line in
     record { status_is = h.status_is; found_is = h.found_is; line = rw (s.held, s.cuts) at said; files = h.files ∙ s.files }
@@ -28,8 +28,8 @@ concludes-since order names inputs rec before between after status found s (Deli
     Delivered of can held kept (delivers-since (auction_texts order names inputs rec) (summary_in order inputs (undecided_of rec.steps)) (done_status (undecided_of rec.steps)) before between after status d s)
 
 pub run-concludes : (names : RunNames) (before between after : Outside) (status : ℕ) (found : Option Record) (inputs : Inputs) (rec : Record) → AreInputsOf names.inputs before inputs → IsSince before between → IsRecordBy inputs rec rec.ending →
-    IsStarved between after status found ⊎ Concludes rec.order names inputs rec between after status found → RunEnds run_order names before after status found
-run-concludes names before between after status found inputs rec are s of (inl h) = RunStarved (starved-since before between after status found s h)
+    EndsOutOfMemory between after status found ⊎ Concludes rec.order names inputs rec between after status found → RunEnds run_order names before after status found
+run-concludes names before between after status found inputs rec are s of (inl h) = RunOutOfMemory (starved-since before between after status found s h)
 run-concludes names before between after status found inputs rec are s of (inr c) =
     Concluded inputs rec are (concludes-since run_order names inputs rec before between after status found s
     (subst (λ o. Concludes o names inputs rec between after status found) (ended-order run_order inputs rec rec.ending of) c))

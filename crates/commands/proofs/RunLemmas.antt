@@ -14,26 +14,26 @@ use Rattle.auction_core.specs.declared.record.Ending.TheVariants.{Done}
 use Rattle.auction_core.specs.declared.record.Record.{Record}
 use Rattle.auction_core.specs.Backed.{IsBacked, undecided_of}
 use Rattle.result_text.specs.ChannelsText.{channels_text}
-use Rattle.transcript_text.specs.Named.{IsHeld}
+use Rattle.transcript_text.specs.RoundTrip.{IsHeld}
 use Rattle.transcript_text.specs.Spelling.{transcript_text}
 use Rattle.commands.specs.declared.inputs.Inputs.{Inputs}
-use Rattle.commands.specs.Delivery.{AllOthersStand, AreStored, NamedText, named}
+use Rattle.commands.specs.Delivery.{AllOthersUnchanged, AreStored, NamedText, named}
 use Rattle.commands.specs.Ends.{AreInputsOf, RunEnds, auction_texts}
 use Rattle.commands.specs.Ends.Concludes.{Unfit, StartOpen, Delivered}
-use Rattle.commands.specs.Ends.RunEnds.{RunStopped, RunStarved, Concluded}
+use Rattle.commands.specs.Ends.RunEnds.{RunStopped, RunOutOfMemory, Concluded}
 use Rattle.commands.specs.Inputs.{inputs_of}
-use Rattle.commands.specs.Outside.{Outside, IsSaid}
+use Rattle.commands.specs.Outside.{Outside, IsLinePrinted}
 use Rattle.commands.specs.Promises.{IsSomeRecord}
 use Rattle.commands.specs.RunPromises.{IsDecided, IsRunDone, IsPartStored, IsRecordAt, IsUnstored, IsUnwritten}
 use Rattle.commands.specs.Records.{IsRecordIn, done_status, outcome, result_of, summary_in}
-use Rattle.commands.specs.Says.{unwritten_line}
+use Rattle.commands.specs.Messages.{unwritten_line}
 use Rattle.commands.specs.Verified.{CanBeNamed}
 use Rattle.command_words.specs.Words.{RunNames, output_names}
 use Rattle.commands.proofs.DeliveryLemmas.{AreApart, Ended, IsPart, ended-of, for-told, others-up-to}
 use Rattle.commands.proofs.DeliveryLemmas.Ended.{Both, NotSaid, NotStored, OutOfRoom}
 use Rattle.commands.proofs.Halts.{stopped-statuses}
 use Rattle.commands.proofs.OutputNames.{HaveOwnNames}
-use Rattle.commands.proofs.ReadAgain.{record-verified}
+use Rattle.commands.proofs.RoundTripLemmas.{record-verified}
 use Rattle.commands.proofs.ReadingLemmas.{accepted-ascend, accepted-values}
 use Rattle.commands.proofs.Statuses.{apart-lists, done-within, none-open, off, one-of, within}
 
@@ -96,7 +96,7 @@ data Came (order : Order) (names : RunNames) (before after : Outside) (status : 
 module _ (order : Order) (names : RunNames) (before after : Outside) (status : ℕ) (found : Option Record) where
   came : RunEnds order names before after status found → Came order names before after status found
   came (RunStopped s none) = Nowhere (stopped-statuses names.inputs before after status s) none s.files
-  came (RunStarved s) = Nowhere (one-of (3 ∷ 5 ∷ 8 ∷ []) status 8 s.status_is refl) s.found_is s.files
+  came (RunOutOfMemory s) = Nowhere (one-of (3 ∷ 5 ∷ 8 ∷ []) status 8 s.status_is refl) s.found_is s.files
   came (Concluded inputs rec are (Unfit of six kept said same)) =
       ToStart (one-of (6 ∷ 7 ∷ []) status 6 six refl) (rw kept (some-record order inputs rec of.backed (λ done. cc (sym of.ending ∙ done)))) same
   came (Concluded inputs rec are (StartOpen of seven kept said same)) =
@@ -137,37 +137,37 @@ module _ (order : Order) (names : RunNames) (before after : Outside) (status : �
   -- ---- what was stored and printed
 
   part-stored : (files : List StoredFile) (c : IsCarried order names before after status found) → before.files ≡ Some files → (x : NamedText) → IsPart files (auction_texts order names c.inputs c.rec) x after → IsPartStored order files names after found
-  part-stored files c told x p = record {
+  part-stored files c modelled x p = record {
     inputs = c.inputs;
-    accepted = c.held files told;
+    accepted = c.held files modelled;
     rec = c.rec;
     recorded = c.recorded;
     auction = c.auction;
     new = p.new;
-    now_told = p.now_told;
+    now_modelled = p.now_modelled;
     part = p.part;
   }
 
   unstored : (files : List StoredFile) (c : IsCarried order names before after status found) → before.files ≡ Some files → (x : NamedText) → IsPart files (auction_texts order names c.inputs c.rec) x after →
-      HasRisen before.faults after.faults → before.steady ≢ true → IsSaid before after (unwritten_line x.name) → IsUnstored order files names before after found
-  unstored files c told x p rises unsteady said = record {
+      HasRisen before.faults after.faults → before.steady ≢ true → IsLinePrinted before after (unwritten_line x.name) → IsUnstored order files names before after found
+  unstored files c modelled x p rises unsteady said = record {
     risen = rises;
     unsteady = unsteady;
     upto = record {
       inputs = c.inputs;
-      accepted = c.held files told;
+      accepted = c.held files modelled;
       rec = c.rec;
       recorded = c.recorded;
       auction = c.auction;
       new = p.new;
-      now_told = p.now_told;
+      now_modelled = p.now_modelled;
       part = p.part;
     };
-    line = subst (λ (z : NamedText). IsSaid before after (unwritten_line z.name)) (sym p.failed) said;
+    line = subst (λ (z : NamedText). IsLinePrinted before after (unwritten_line z.name)) (sym p.failed) said;
   }
 
   pub run-done : (files : List StoredFile) → RunEnds order names before after status found → IsOnce names found → before.files ≡ Some files → IsTrue (is_in (0 ∷ 1 ∷ []) status) → IsRunDone order files names before after status found
-  run-done files end once told h = go c.ended
+  run-done files end once modelled h = go c.ended
     where
       c : IsCarried order names before after status found
       c = carried end (within (0 ∷ 1 ∷ []) (0 ∷ 1 ∷ 4 ∷ []) status refl h)
@@ -178,22 +178,22 @@ module _ (order : Order) (names : RunNames) (before after : Outside) (status : �
       go : Ended (auction_texts order names c.inputs c.rec) (summary_in order c.inputs (undecided_of c.rec.steps)) (done_status (undecided_of c.rec.steps)) before after status → IsRunDone order files names before after status found
       go (Both is all writes) = record {
         inputs = c.inputs;
-        accepted = c.held files told;
+        accepted = c.held files modelled;
         rec = c.rec;
         recorded = c.recorded;
         auction = c.auction;
-        stored = all files told (apart c once);
+        stored = all files modelled (apart c once);
         summary = writes;
         status_is = is;
-        verifiable = record-verified files names.inputs c.inputs c.rec (c.held files told) c.named (in-own-order order c.inputs c.rec c.auction) of.ending c.kept;
+        verifiable = record-verified files names.inputs c.inputs c.rec (c.held files modelled) c.named (in-own-order order c.inputs c.rec c.auction) of.ending c.kept;
       }
       go (NotSaid four all rises less said) = absurd (off (0 ∷ 1 ∷ []) status 4 h four refl)
       go (NotStored x four part rises unsteady said) = absurd (off (0 ∷ 1 ∷ []) status 4 h four refl)
       go (OutOfRoom x eight part said) = absurd (off (0 ∷ 1 ∷ []) status 8 h eight refl)
 
   pub run-decided : (files : List StoredFile) → RunEnds order names before after status found → IsOnce names found → before.files ≡ Some files → status ≡ 0 → IsDecided order files names before after
-  run-decided files end once told zero =
-      let done = run-done files end once told (one-of (0 ∷ 1 ∷ []) status 0 zero refl) in
+  run-decided files end once modelled zero =
+      let done = run-done files end once modelled (one-of (0 ∷ 1 ∷ []) status 0 zero refl) in
       let none : undecided_of done.rec.steps ≡ [] = none-open (undecided_of done.rec.steps) (sym done.status_is ∙ zero) in
       let result : MatchOption after.files ⊥ (λ new. bytes_of new names.result ≡ Some (result_of order done.inputs (undecided_of done.rec.steps))) =
       for-told after.files (λ new. AreStored files new (auction_texts order names done.inputs done.rec)) (λ new. bytes_of new names.result ≡ Some (result_of order done.inputs (undecided_of done.rec.steps))) (λ new st. first-held order files new names done.inputs done.rec st) done.stored in
@@ -206,7 +206,7 @@ module _ (order : Order) (names : RunNames) (before after : Outside) (status : �
       }
 
   pub run-stored : (files : List StoredFile) → RunEnds order names before after status found → IsOnce names found → before.files ≡ Some files → status ≡ 4 → IsUnwritten order files names before after found
-  run-stored files end once told four = go c.ended
+  run-stored files end once modelled four = go c.ended
     where
       c : IsCarried order names before after status found
       c = carried end (one-of (0 ∷ 1 ∷ 4 ∷ []) status 4 four refl)
@@ -218,27 +218,27 @@ module _ (order : Order) (names : RunNames) (before after : Outside) (status : �
       go (Both is all writes) = absurd (never (undecided_of c.rec.steps) status 4 is four refl)
       go (NotSaid is all rises less said) = inr (record {
         inputs = c.inputs;
-        accepted = c.held files told;
+        accepted = c.held files modelled;
         rec = c.rec;
         recorded = c.recorded;
         auction = c.auction;
-        stored = all files told (apart c once);
+        stored = all files modelled (apart c once);
         failed = rises;
         unsure = less;
         summary = said;
-        verifiable = record-verified files names.inputs c.inputs c.rec (c.held files told) c.named (in-own-order order c.inputs c.rec c.auction) of.ending c.kept;
+        verifiable = record-verified files names.inputs c.inputs c.rec (c.held files modelled) c.named (in-own-order order c.inputs c.rec c.auction) of.ending c.kept;
       })
-      go (NotStored x is part rises unsteady said) = inl (unstored files c told x (part files told (apart c once)) rises unsteady said)
+      go (NotStored x is part rises unsteady said) = inl (unstored files c modelled x (part files modelled (apart c once)) rises unsteady said)
       go (OutOfRoom x eight part said) = absurd (omega arith)
 
   pub run-part : (files : List StoredFile) → RunEnds order names before after status found → IsOnce names found → before.files ≡ Some files → status ≡ 8 → IsSome found → IsPartStored order files names after found
-  run-part files end once told eight some = go (came end)
+  run-part files end once modelled eight some = go (came end)
     where
       left : (c : IsCarried order names before after status found) → Ended (auction_texts order names c.inputs c.rec) (summary_in order c.inputs (undecided_of c.rec.steps)) (done_status (undecided_of c.rec.steps)) before after status → IsPartStored order files names after found
       left c (Both is all writes) = absurd (never (undecided_of c.rec.steps) status 8 is eight refl)
       left c (NotSaid four all rises less said) = absurd (omega arith)
       left c (NotStored x four part rises unsteady said) = absurd (omega arith)
-      left c (OutOfRoom x is part said) = part-stored files c told x (part files told (apart c once))
+      left c (OutOfRoom x is part said) = part-stored files c modelled x (part files modelled (apart c once))
 
       go : Came order names before after status found → IsPartStored order files names after found
       go (Nowhere s none same) = absurd (true≢false (sym some ∙ ap is_some none))
@@ -265,13 +265,13 @@ module _ (order : Order) (names : RunNames) (before after : Outside) (status : �
 
   pub run-surely : (files : List StoredFile) → RunEnds order names before after status found → before.files ≡ Some files → before.steady ≡ true →
       ((inputs : Inputs) (undecided : List ClockTest) → inputs_of files names.inputs ≡ Ok inputs → length (summary_in order inputs undecided) ≤ before.sure) → status ≢ 4
-  run-surely files end told steady room = λ four.
+  run-surely files end modelled steady room = λ four.
       let c = carried end (one-of (0 ∷ 1 ∷ 4 ∷ []) status 4 four refl) in
       go c four c.ended
     where
       go : (c : IsCarried order names before after status found) → status ≡ 4 → Ended (auction_texts order names c.inputs c.rec) (summary_in order c.inputs (undecided_of c.rec.steps)) (done_status (undecided_of c.rec.steps)) before after status → ⊥
       go c four (Both is all writes) = never (undecided_of c.rec.steps) status 4 is four refl
-      go c four (NotSaid is all rises less said) = let enough = room c.inputs (undecided_of c.rec.steps) (c.held files told) in omega arith
+      go c four (NotSaid is all rises less said) = let enough = room c.inputs (undecided_of c.rec.steps) (c.held files modelled) in omega arith
       go c four (NotStored x is part rises unsteady said) = unsteady steady
       go c four (OutOfRoom x eight part said) = omega arith
 
@@ -291,29 +291,29 @@ module _ (order : Order) (names : RunNames) (before after : Outside) (status : �
       go (OutOfRoom x eight part said) = absurd (omega arith)
 
   -- Files that are unchanged.
-  stand : (files : List StoredFile) → before.files ≡ Some files → after.files ≡ before.files → MatchOption after.files ⊥ (λ new. AllOthersStand files new (output_names names))
-  stand files told same = rw (same ∙ told) (λ other ne. refl)
+  stand : (files : List StoredFile) → before.files ≡ Some files → after.files ≡ before.files → MatchOption after.files ⊥ (λ new. AllOthersUnchanged files new (output_names names))
+  stand files modelled same = rw (same ∙ modelled) (λ other ne. refl)
 
-  pub run-others : (files : List StoredFile) → RunEnds order names before after status found → IsOnce names found → before.files ≡ Some files → MatchOption after.files ⊥ (λ new. AllOthersStand files new (output_names names))
-  run-others files end once told = go (came end)
+  pub run-others : (files : List StoredFile) → RunEnds order names before after status found → IsOnce names found → before.files ≡ Some files → MatchOption after.files ⊥ (λ new. AllOthersUnchanged files new (output_names names))
+  run-others files end once modelled = go (came end)
     where
-      all-stand : (c : IsCarried order names before after status found) → MatchOption after.files ⊥ (λ new. AreStored files new (auction_texts order names c.inputs c.rec)) → MatchOption after.files ⊥ (λ new. AllOthersStand files new (output_names names))
-      all-stand c stored = for-told after.files (λ new. AreStored files new (auction_texts order names c.inputs c.rec)) (λ new. AllOthersStand files new (output_names names)) (λ new st. st.others) stored
+      all-stand : (c : IsCarried order names before after status found) → MatchOption after.files ⊥ (λ new. AreStored files new (auction_texts order names c.inputs c.rec)) → MatchOption after.files ⊥ (λ new. AllOthersUnchanged files new (output_names names))
+      all-stand c stored = for-told after.files (λ new. AreStored files new (auction_texts order names c.inputs c.rec)) (λ new. AllOthersUnchanged files new (output_names names)) (λ new st. st.others) stored
 
-      part-stands : (c : IsCarried order names before after status found) (x : NamedText) → IsPart files (auction_texts order names c.inputs c.rec) x after → MatchOption after.files ⊥ (λ new. AllOthersStand files new (output_names names))
+      part-stands : (c : IsCarried order names before after status found) (x : NamedText) → IsPart files (auction_texts order names c.inputs c.rec) x after → MatchOption after.files ⊥ (λ new. AllOthersUnchanged files new (output_names names))
       part-stands c x p =
-          let others : AllOthersStand files p.new (output_names names) = others-up-to files p.new (auction_texts order names c.inputs c.rec) p.part in
-          subst (λ o. MatchOption o ⊥ (λ new. AllOthersStand files new (output_names names))) (sym p.now_told) others
+          let others : AllOthersUnchanged files p.new (output_names names) = others-up-to files p.new (auction_texts order names c.inputs c.rec) p.part in
+          subst (λ o. MatchOption o ⊥ (λ new. AllOthersUnchanged files new (output_names names))) (sym p.now_modelled) others
 
-      left : (c : IsCarried order names before after status found) → Ended (auction_texts order names c.inputs c.rec) (summary_in order c.inputs (undecided_of c.rec.steps)) (done_status (undecided_of c.rec.steps)) before after status → MatchOption after.files ⊥ (λ new. AllOthersStand files new (output_names names))
-      left c (Both is all writes) = all-stand c (all files told (apart c once))
-      left c (NotSaid is all rises less said) = all-stand c (all files told (apart c once))
-      left c (NotStored x is part rises unsteady said) = part-stands c x (part files told (apart c once))
-      left c (OutOfRoom x is part said) = part-stands c x (part files told (apart c once))
+      left : (c : IsCarried order names before after status found) → Ended (auction_texts order names c.inputs c.rec) (summary_in order c.inputs (undecided_of c.rec.steps)) (done_status (undecided_of c.rec.steps)) before after status → MatchOption after.files ⊥ (λ new. AllOthersUnchanged files new (output_names names))
+      left c (Both is all writes) = all-stand c (all files modelled (apart c once))
+      left c (NotSaid is all rises less said) = all-stand c (all files modelled (apart c once))
+      left c (NotStored x is part rises unsteady said) = part-stands c x (part files modelled (apart c once))
+      left c (OutOfRoom x is part said) = part-stands c x (part files modelled (apart c once))
 
-      go : Came order names before after status found → MatchOption after.files ⊥ (λ new. AllOthersStand files new (output_names names))
-      go (Nowhere s none same) = stand files told same
-      go (ToStart s some same) = stand files told same
+      go : Came order names before after status found → MatchOption after.files ⊥ (λ new. AllOthersUnchanged files new (output_names names))
+      go (Nowhere s none same) = stand files modelled same
+      go (ToStart s some same) = stand files modelled same
       go (Through c) = left c c.ended
 
   -- ---- the record, and the statuses

@@ -23,26 +23,26 @@ use Rattle.scenario_json.specs.declared.join.JoinErr.{JoinErr}
 use Rattle.scenario_json.specs.declared.join.JoinErr.TheVariants.{MissingDomain, NoMemory as NoSpace}
 use Rattle.scenario_json.specs.StartOnly.{start_only}
 use Rattle.scenario_json.proofs.StartLemmas.{only-starts}
-use Rattle.scenario_json.specs.Joined.{book_unless, first_missing, joined}
-use Rattle.target_seek.specs.Tops.{SeekBase, book_at, fits_at}
+use Rattle.scenario_json.specs.Join.{book_unless, first_missing, joined}
+use Rattle.target_seek.specs.TopChannels.{SeekBase, book_at, fits_at}
 use Rattle.commands.specs.declared.inputs.Inputs.{Inputs}
-use Rattle.commands.specs.declared.input_file.Stop.{Stop}
-use Rattle.commands.specs.declared.input_file.Stop.TheVariants.{CannotRead, NoMemory, Refused}
-use Rattle.commands.specs.declared.sources.Sources.{Sources}
-use Rattle.commands.specs.declared.tops.LeastTop.{LeastTop}
+use Rattle.commands.specs.declared.inputs.input_file.Stop.{Stop}
+use Rattle.commands.specs.declared.inputs.input_file.Stop.TheVariants.{CannotRead, NoMemory, Refused}
+use Rattle.commands.specs.declared.inputs.sources.Sources.{Sources}
+use Rattle.commands.specs.declared.top_channel_runs.LeastTop.{LeastTop}
 use Rattle.commands.specs.Delivery.IsNotStored.{Unwritten, OutOfRoom as NoRoom}
 use Rattle.commands.specs.Delivery.IsPrinted.{Written, CutShort}
-use Rattle.commands.specs.Delivery.{AllOthersStand, AreStored, Delivers, NamedText, named}
+use Rattle.commands.specs.Delivery.{AllOthersUnchanged, AreStored, Delivers, NamedText, named}
 use Rattle.commands.specs.Ends.{AreInputsOf, AreSought, SeekEnds}
-use Rattle.commands.specs.Ends.SeekEnds.{SeekStopped, SeekStarved, NoTop, TopOpen, TopFound}
-use Rattle.commands.specs.Inputs.{Agrees, CountsFault, RisesAt, and_then, inputs_by, inputs_from, inputs_of, sources_of, with_said}
-use Rattle.commands.specs.Outside.{Outside, IsSaid}
+use Rattle.commands.specs.Ends.SeekEnds.{SeekStopped, SeekOutOfMemory, NoTop, TopOpen, TopFound}
+use Rattle.commands.specs.Inputs.{Agrees, CountsFault, RisesAt, and_then, inputs_by, inputs_from, inputs_of, sources_of, with_owners_file}
+use Rattle.commands.specs.Outside.{Outside, IsLinePrinted}
 use Rattle.commands.specs.Promises.{IsSomeRecord}
 use Rattle.commands.specs.Records.{IsOpenRecordOf, IsRefutedRecordOf, run_order}
-use Rattle.commands.specs.Says.{memory_line, unwritten_line}
+use Rattle.commands.specs.Messages.{memory_line, unwritten_line}
 use Rattle.commands.specs.Seek.{IsOneBelow, IsLeastTop, IsSeekable, base_of, inputs_at, joinable, seekable_of, top_status, top_text}
 use Rattle.commands.specs.SeekPromises.{IsNoTop, IsTopOf, IsTopOpen, SeekPromises, seek_texts, shows_unfit}
-use Rattle.commands.specs.VerifyPromises.{IsOr}
+use Rattle.commands.specs.VerifyPromises.{IsStatusOr}
 use Rattle.command_words.specs.Words.{InputNames, SeekNames, seek_inputs}
 use Rattle.commands.proofs.DeliveryLemmas.{AreApart, Ended, IsPart, all-more, all-none, ended-of, for-told, others-up-to}
 use Rattle.commands.proofs.DeliveryLemmas.Ended.{Both, NotSaid, NotStored, OutOfRoom}
@@ -52,7 +52,7 @@ use Rattle.commands.proofs.ReadingLemmas.{then-ok}
 use Rattle.commands.proofs.RunLemmas.{absent, some-record}
 use Rattle.commands.proofs.StartLemmas.{nobody-fits}
 use Rattle.commands.proofs.Statuses.{apart-lists, off, one-of, within}
-use Rattle.commands.proofs.TopLemmas.{seek-channels, starts-fit}
+use Rattle.commands.proofs.TopChannelRunLemmas.{seek-channels, starts-fit}
 use Rattle.target_seek.proofs.AboveLemmas.{fits-above}
 
 -- ---- what is read
@@ -97,8 +97,8 @@ sought-inputs files names sources e =
     let (s, read, made) = then-ok (sources_of files (seek_inputs names)) joinable sources e in
     let (inputs, held, same) = then-ok {A = Inputs} {B = Sources} (inputs_by s) (λ inputs. Ok s) sources made in
     let own : s ≡ sources = cc in
-    ap (λ r. and_then (and_then r inputs_by) (with_said files None)) read
-    ∙ (ap (λ r. and_then r (with_said files None)) held
+    ap (λ r. and_then (and_then r inputs_by) (with_owners_file files None)) read
+    ∙ (ap (λ r. and_then r (with_owners_file files None)) held
     ∙ ap Ok (inputs-whole s inputs held ∙ ap whole_of own))
 
 -- What stops the search stops the reading of the inputs.
@@ -106,11 +106,11 @@ stop-inputs : (files : List StoredFile) (names : SeekNames) (stop : Stop) → se
 unfolding inputs_of
 stop-inputs files names stop e = go (sources_of files (seek_inputs names)) e
   where
-    joins : (s : Sources) (r : Result Inputs Stop) → and_then {A = Inputs} {B = Sources} r (λ inputs. Ok s) ≡ Err stop → and_then {A = Inputs} {B = Inputs} r (with_said files None) ≡ Err stop
+    joins : (s : Sources) (r : Result Inputs Stop) → and_then {A = Inputs} {B = Sources} r (λ inputs. Ok s) ≡ Err stop → and_then {A = Inputs} {B = Inputs} r (with_owners_file files None) ≡ Err stop
     joins s (Ok inputs) k = cc
     joins s (Err why) k = let same : why ≡ stop = cc in ap Err same
 
-    go : (r : Result Sources Stop) → and_then r joinable ≡ Err stop → and_then (and_then r inputs_by) (with_said files None) ≡ Err stop
+    go : (r : Result Sources Stop) → and_then r joinable ≡ Err stop → and_then (and_then r inputs_by) (with_owners_file files None) ≡ Err stop
     go (Ok s) k = joins s (inputs_by s) k
     go (Err why) k = let same : why ≡ stop = cc in ap Err same
 
@@ -240,7 +240,7 @@ module _ (names : SeekNames) (before after : Outside) (status : ℕ) (found belo
 
   came : SeekEnds names before after status found below → Came names before after status found below
   came (SeekStopped s none alone) = Nowhere (stopped-statuses (seek_inputs names) before after status s) none alone s.files
-  came (SeekStarved s alone) = Nowhere (one-of (3 ∷ 5 ∷ 8 ∷ []) status 8 s.status_is refl) s.found_is alone s.files
+  came (SeekOutOfMemory s alone) = Nowhere (one-of (3 ∷ 5 ∷ 8 ∷ []) status 8 s.status_is refl) s.found_is alone s.files
   came (NoTop sources rec are can of six kept alone said same) =
       ToTop (one-of (6 ∷ 7 ∷ []) status 6 six refl) (rw kept (some-record run_order (inputs_at (base_of sources) sources.scenario.top) rec of.backed (λ done. cc (sym of.ending ∙ done)))) alone same
   came (TopOpen sources rec are can of seven kept alone said same) =
@@ -330,11 +330,11 @@ module _ (names : SeekNames) (before after : Outside) (status : ℕ) (found belo
   on r = within (0 ∷ 1 ∷ 4 ∷ 8 ∷ []) (0 ∷ 1 ∷ 4 ∷ 6 ∷ 7 ∷ 8 ∷ []) status refl (reached-statuses r)
 
   held : (sources : Sources) → AreSought names before sources → AreInputsOf (seek_inputs names) before (whole_of sources)
-  held sources are files told = sought-inputs files names sources (are files told)
+  held sources are files modelled = sought-inputs files names sources (are files modelled)
 
   pub seek-reading : SeekEnds names before after status found below → Reading (seek_inputs names) before after status
   seek-reading (SeekStopped s none alone) = Halted s
-  seek-reading (SeekStarved s alone) = Short s.status_is
+  seek-reading (SeekOutOfMemory s alone) = Short s.status_is
   seek-reading (NoTop sources rec are can of six kept alone said same) = Went (whole_of sources) (held sources are) (one-of (0 ∷ 1 ∷ 4 ∷ 6 ∷ 7 ∷ 8 ∷ []) status 6 six refl)
   seek-reading (TopOpen sources rec are can of seven kept alone said same) = Went (whole_of sources) (held sources are) (one-of (0 ∷ 1 ∷ 4 ∷ 6 ∷ 7 ∷ 8 ∷ []) status 7 seven refl)
   seek-reading (TopFound sources x are can least is lower d) =
@@ -345,7 +345,7 @@ module _ (names : SeekNames) (before after : Outside) (status : ℕ) (found belo
 
   pub seek-unread : SeekEnds names before after status found below → status ≡ 3 → HasRisen before.faults after.faults
   seek-unread (SeekStopped s none alone) three = stopped-unread (seek_inputs names) before after status s three
-  seek-unread (SeekStarved s alone) three = let eight = s.status_is in absurd (omega arith)
+  seek-unread (SeekOutOfMemory s alone) three = let eight = s.status_is in absurd (omega arith)
   seek-unread (NoTop sources rec are can of six kept alone said same) three = absurd (omega arith)
   seek-unread (TopOpen sources rec are can of seven kept alone said same) three = absurd (omega arith)
   seek-unread (TopFound sources x are can least is lower d) three = absurd (off (0 ∷ 1 ∷ 4 ∷ 8 ∷ []) status 3 (reached-statuses (record {
@@ -353,14 +353,14 @@ module _ (names : SeekNames) (before after : Outside) (status : ℕ) (found belo
     delivered = d;
   })) three refl)
 
-  pub seek-memory : SeekEnds names before after status found below → status ≡ 8 → IsSaid before after memory_line
+  pub seek-memory : SeekEnds names before after status found below → status ≡ 8 → IsLinePrinted before after memory_line
   seek-memory (SeekStopped s none alone) eight = stopped-memory (seek_inputs names) before after status s eight
-  seek-memory (SeekStarved s alone) eight = s.line
+  seek-memory (SeekOutOfMemory s alone) eight = s.line
   seek-memory (NoTop sources rec are can of six kept alone said same) eight = absurd (omega arith)
   seek-memory (TopOpen sources rec are can of seven kept alone said same) eight = absurd (omega arith)
   seek-memory (TopFound sources x are can least is lower d) eight = by (ended-of (seek_texts names x.rec) (top_text x.top x.is_open) (top_status x.is_open) before after status d)
     where
-      by : Ended (seek_texts names x.rec) (top_text x.top x.is_open) (top_status x.is_open) before after status → IsSaid before after memory_line
+      by : Ended (seek_texts names x.rec) (top_text x.top x.is_open) (top_status x.is_open) before after status → IsLinePrinted before after memory_line
       by (Both is all writes) = absurd (never x.is_open status 8 is eight refl)
       by (NotSaid four all rises less said) = absurd (omega arith)
       by (NotStored y four part rises unsteady said) = absurd (omega arith)
@@ -368,9 +368,9 @@ module _ (names : SeekNames) (before after : Outside) (status : ℕ) (found belo
 
   abbrev IsUnwritten : Type 0
   IsUnwritten =
-      (HasRisen before.faults after.faults × (before.steady ≢ true) × IsSaid before after (unwritten_line names.channels))
+      (HasRisen before.faults after.faults × (before.steady ≢ true) × IsLinePrinted before after (unwritten_line names.channels))
       ⊎ ((of : IsTopOf names before found below) × HasRisen before.cuts after.cuts
-      × (before.sure < length (top_text of.x.top of.x.is_open)) × IsSaid before after (top_text of.x.top of.x.is_open)
+      × (before.sure < length (top_text of.x.top of.x.is_open)) × IsLinePrinted before after (top_text of.x.top of.x.is_open)
       × ((files : List StoredFile) → before.files ≡ Some files → MatchOption after.files ⊥ (λ new. AreStored files new (seek_texts names of.x.rec))))
 
   wrote : (r : IsReached names before after status found below) → status ≡ 4 → IsUnwritten
@@ -384,7 +384,7 @@ module _ (names : SeekNames) (before after : Outside) (status : ℕ) (found belo
 
       go : Delivers (seek_texts names top.x.rec) (top_text top.x.top top.x.is_open) (top_status top.x.is_open) before after status → IsUnwritten
       go (inl (next, stored, Written is same writes)) = absurd (never top.x.is_open status 4 is four refl)
-      go (inl (next, stored, CutShort is same rises less said)) = inr (top, subst (λ z. HasRisen z after.cuts) stored.cuts rises, subst (λ z. z < length (top_text top.x.top top.x.is_open)) stored.sure less, (rw (stored.held, stored.cuts) at said), λ files told. all-more x [] before next after stored (all-none next after same) files told (single x))
+      go (inl (next, stored, CutShort is same rises less said)) = inr (top, subst (λ z. HasRisen z after.cuts) stored.cuts rises, subst (λ z. z < length (top_text top.x.top top.x.is_open)) stored.sure less, (rw (stored.held, stored.cuts) at said), λ files modelled. all-more x [] before next after stored (all-none next after same) files modelled (single x))
       go (inr (Unwritten is stores rises unsteady said)) = inl (rises, unsteady, said)
       go (inr (NoRoom eight stores said)) = absurd (omega arith)
 
@@ -394,7 +394,7 @@ module _ (names : SeekNames) (before after : Outside) (status : ℕ) (found belo
   pub seek-unwritten : SeekEnds names before after status found below → status ≡ 4 → HasRisen before.faults after.faults ⊎ HasRisen before.cuts after.cuts
   seek-unwritten end four = elim (seek-wrote end four) [
     | inl unstored ↦ inl unstored.0
-    | inr unsaid ↦ inr unsaid.1
+    | inr without_owners ↦ inr without_owners.1
   ]
 
   -- ---- what was found
@@ -432,7 +432,7 @@ module _ (names : SeekNames) (before after : Outside) (status : ℕ) (found belo
 
   seek-stored : (files : List StoredFile) → SeekEnds names before after status found below → before.files ≡ Some files → IsTrue (is_in (0 ∷ 1 ∷ []) status) →
       (of : IsTopOf names before found below) × MatchOption after.files ⊥ (λ new. AreStored files new (seek_texts names of.x.rec))
-  seek-stored files end told h = go (ended r)
+  seek-stored files end modelled h = go (ended r)
     where
       r : IsReached names before after status found below
       r = reached end (within (0 ∷ 1 ∷ []) (0 ∷ 1 ∷ 4 ∷ []) status refl h)
@@ -442,42 +442,42 @@ module _ (names : SeekNames) (before after : Outside) (status : ℕ) (found belo
 
       go : Ended (seek_texts names top.x.rec) (top_text top.x.top top.x.is_open) (top_status top.x.is_open) before after status →
           (of : IsTopOf names before found below) × MatchOption after.files ⊥ (λ new. AreStored files new (seek_texts names of.x.rec))
-      go (Both is all writes) = (top, all files told (single (named names.channels (channels_text top.x.rec.map))))
+      go (Both is all writes) = (top, all files modelled (single (named names.channels (channels_text top.x.rec.map))))
       go (NotSaid four all rises less said) = absurd (off (0 ∷ 1 ∷ []) status 4 h four refl)
       go (NotStored x four part rises unsteady said) = absurd (off (0 ∷ 1 ∷ []) status 4 h four refl)
       go (OutOfRoom x eight part said) = absurd (off (0 ∷ 1 ∷ []) status 8 h eight refl)
 
   -- Files that are unchanged.
-  stand : (files : List StoredFile) → before.files ≡ Some files → after.files ≡ before.files → MatchOption after.files ⊥ (λ new. AllOthersStand files new (names.channels ∷ []))
-  stand files told same = rw (same ∙ told) (λ other ne. refl)
+  stand : (files : List StoredFile) → before.files ≡ Some files → after.files ≡ before.files → MatchOption after.files ⊥ (λ new. AllOthersUnchanged files new (names.channels ∷ []))
+  stand files modelled same = rw (same ∙ modelled) (λ other ne. refl)
 
-  seek-others : (files : List StoredFile) → SeekEnds names before after status found below → before.files ≡ Some files → MatchOption after.files ⊥ (λ new. AllOthersStand files new (names.channels ∷ []))
-  seek-others files end told = go (came end)
+  seek-others : (files : List StoredFile) → SeekEnds names before after status found below → before.files ≡ Some files → MatchOption after.files ⊥ (λ new. AllOthersUnchanged files new (names.channels ∷ []))
+  seek-others files end modelled = go (came end)
     where
-      all-stand : (r : IsReached names before after status found below) → MatchOption after.files ⊥ (λ new. AreStored files new (seek_texts names r.of.x.rec)) → MatchOption after.files ⊥ (λ new. AllOthersStand files new (names.channels ∷ []))
-      all-stand r stored = for-told after.files (λ new. AreStored files new (seek_texts names r.of.x.rec)) (λ new. AllOthersStand files new (names.channels ∷ [])) (λ new st. st.others) stored
+      all-stand : (r : IsReached names before after status found below) → MatchOption after.files ⊥ (λ new. AreStored files new (seek_texts names r.of.x.rec)) → MatchOption after.files ⊥ (λ new. AllOthersUnchanged files new (names.channels ∷ []))
+      all-stand r stored = for-told after.files (λ new. AreStored files new (seek_texts names r.of.x.rec)) (λ new. AllOthersUnchanged files new (names.channels ∷ [])) (λ new st. st.others) stored
 
-      part-stands : (r : IsReached names before after status found below) (x : NamedText) → IsPart files (seek_texts names r.of.x.rec) x after → MatchOption after.files ⊥ (λ new. AllOthersStand files new (names.channels ∷ []))
+      part-stands : (r : IsReached names before after status found below) (x : NamedText) → IsPart files (seek_texts names r.of.x.rec) x after → MatchOption after.files ⊥ (λ new. AllOthersUnchanged files new (names.channels ∷ []))
       part-stands r x p =
-          let others : AllOthersStand files p.new (names.channels ∷ []) = others-up-to files p.new (seek_texts names r.of.x.rec) p.part in
-          subst (λ o. MatchOption o ⊥ (λ new. AllOthersStand files new (names.channels ∷ []))) (sym p.now_told) others
+          let others : AllOthersUnchanged files p.new (names.channels ∷ []) = others-up-to files p.new (seek_texts names r.of.x.rec) p.part in
+          subst (λ o. MatchOption o ⊥ (λ new. AllOthersUnchanged files new (names.channels ∷ []))) (sym p.now_modelled) others
 
-      left : (r : IsReached names before after status found below) → Ended (seek_texts names r.of.x.rec) (top_text r.of.x.top r.of.x.is_open) (top_status r.of.x.is_open) before after status → MatchOption after.files ⊥ (λ new. AllOthersStand files new (names.channels ∷ []))
-      left r (Both is all writes) = all-stand r (all files told (single (named names.channels (channels_text r.of.x.rec.map))))
-      left r (NotSaid is all rises less said) = all-stand r (all files told (single (named names.channels (channels_text r.of.x.rec.map))))
-      left r (NotStored x is part rises unsteady said) = part-stands r x (part files told (single (named names.channels (channels_text r.of.x.rec.map))))
-      left r (OutOfRoom x is part said) = part-stands r x (part files told (single (named names.channels (channels_text r.of.x.rec.map))))
+      left : (r : IsReached names before after status found below) → Ended (seek_texts names r.of.x.rec) (top_text r.of.x.top r.of.x.is_open) (top_status r.of.x.is_open) before after status → MatchOption after.files ⊥ (λ new. AllOthersUnchanged files new (names.channels ∷ []))
+      left r (Both is all writes) = all-stand r (all files modelled (single (named names.channels (channels_text r.of.x.rec.map))))
+      left r (NotSaid is all rises less said) = all-stand r (all files modelled (single (named names.channels (channels_text r.of.x.rec.map))))
+      left r (NotStored x is part rises unsteady said) = part-stands r x (part files modelled (single (named names.channels (channels_text r.of.x.rec.map))))
+      left r (OutOfRoom x is part said) = part-stands r x (part files modelled (single (named names.channels (channels_text r.of.x.rec.map))))
 
-      go : Came names before after status found below → MatchOption after.files ⊥ (λ new. AllOthersStand files new (names.channels ∷ []))
-      go (Nowhere s none alone same) = stand files told same
-      go (ToTop s some alone same) = stand files told same
+      go : Came names before after status found below → MatchOption after.files ⊥ (λ new. AllOthersUnchanged files new (names.channels ∷ []))
+      go (Nowhere s none alone same) = stand files modelled same
+      go (ToTop s some alone same) = stand files modelled same
       go (Reached r) = left r (ended r)
 
   -- ---- at the scenario's own top channel
 
   seek-unfit : SeekEnds names before after status found below → status ≡ 6 → IsNoTop names before after found
   seek-unfit (SeekStopped s none alone) six = absurd (off (3 ∷ 5 ∷ 8 ∷ []) status 6 (stopped-statuses (seek_inputs names) before after status s) six refl)
-  seek-unfit (SeekStarved s alone) six = let eight = s.status_is in absurd (omega arith)
+  seek-unfit (SeekOutOfMemory s alone) six = let eight = s.status_is in absurd (omega arith)
   seek-unfit (NoTop sources rec are can of is kept alone said same) six = record {
     sources = sources;
     sought = are;
@@ -493,7 +493,7 @@ module _ (names : SeekNames) (before after : Outside) (status : ℕ) (found belo
 
   seek-open : SeekEnds names before after status found below → status ≡ 7 → IsTopOpen names before after found
   seek-open (SeekStopped s none alone) seven = absurd (off (3 ∷ 5 ∷ 8 ∷ []) status 7 (stopped-statuses (seek_inputs names) before after status s) seven refl)
-  seek-open (SeekStarved s alone) seven = let eight = s.status_is in absurd (omega arith)
+  seek-open (SeekOutOfMemory s alone) seven = let eight = s.status_is in absurd (omega arith)
   seek-open (NoTop sources rec are can of six kept alone said same) seven = absurd (omega arith)
   seek-open (TopOpen sources rec are can of is kept alone said same) seven = record {
     sources = sources;
@@ -508,7 +508,7 @@ module _ (names : SeekNames) (before after : Outside) (status : ℕ) (found belo
 
   -- The sources of the search are what the files hold.
   same-sources : (files : List StoredFile) (own sources : Sources) → AreSought names before own → before.files ≡ Some files → seekable_of files (seek_inputs names) ≡ Ok sources → own ≡ sources
-  same-sources files own sources are told is = same own sources (sym (are files told) ∙ is)
+  same-sources files own sources are modelled is = same own sources (sym (are files modelled) ∙ is)
     where
       same : (a b : Sources) → accepted a ≡ accepted b → a ≡ b
       same a b e = cc
@@ -518,26 +518,26 @@ module _ (names : SeekNames) (before after : Outside) (status : ℕ) (found belo
   fits-own sources x can least = let of = least.auction in fits-above (base_of sources) x.top sources.scenario.top (starts-fit (base_of sources) x.top true can of.starts) least.most
 
   seek-unfits : (files : List StoredFile) (sources : Sources) → SeekEnds names before after status found below → before.files ≡ Some files → seekable_of files (seek_inputs names) ≡ Ok sources →
-      IsFalse (fits_at (base_of sources) sources.scenario.top) → IsOr 6 before status ⊎ (status ≡ 7)
-  seek-unfits files sources (SeekStopped s none alone) told is unfit = inl (halted-held (seek_inputs names) before after status 6 files (whole_of sources) s told (sought-inputs files names sources is))
-  seek-unfits files sources (SeekStarved s alone) told is unfit = inl (inr (inl s.status_is))
-  seek-unfits files sources (NoTop own rec are can of six kept alone said same) told is unfit = inl (inl six)
-  seek-unfits files sources (TopOpen own rec are can of seven kept alone said same) told is unfit = inr seven
-  seek-unfits files sources (TopFound own x are can least kept lower d) told is unfit =
-      let one : own ≡ sources = same-sources files own sources are told is in
+      IsFalse (fits_at (base_of sources) sources.scenario.top) → IsStatusOr 6 before status ⊎ (status ≡ 7)
+  seek-unfits files sources (SeekStopped s none alone) modelled is unfit = inl (halted-held (seek_inputs names) before after status 6 files (whole_of sources) s modelled (sought-inputs files names sources is))
+  seek-unfits files sources (SeekOutOfMemory s alone) modelled is unfit = inl (inr (inl s.status_is))
+  seek-unfits files sources (NoTop own rec are can of six kept alone said same) modelled is unfit = inl (inl six)
+  seek-unfits files sources (TopOpen own rec are can of seven kept alone said same) modelled is unfit = inr seven
+  seek-unfits files sources (TopFound own x are can least kept lower d) modelled is unfit =
+      let one : own ≡ sources = same-sources files own sources are modelled is in
       absurd (true≢false (sym (subst (λ (z : Sources). fits_at (base_of z) z.scenario.top ≡ true) one (fits-own own x can least)) ∙ unfit))
 
   seek-complete : (files : List StoredFile) (sources : Sources) → SeekEnds names before after status found below → before.files ≡ Some files → seekable_of files (seek_inputs names) ≡ Ok sources →
-      IsTrue (fits_at (base_of sources) sources.scenario.top) → IsOr 0 before status ⊎ IsTrue (is_in (1 ∷ 4 ∷ 7 ∷ []) status)
-  seek-complete files sources (SeekStopped s none alone) told is fit = inl (halted-held (seek_inputs names) before after status 0 files (whole_of sources) s told (sought-inputs files names sources is))
-  seek-complete files sources (SeekStarved s alone) told is fit = inl (inr (inl s.status_is))
-  seek-complete files sources (NoTop own rec are can of six kept alone said same) told is fit =
-      let one : own ≡ sources = same-sources files own sources are told is in
+      IsTrue (fits_at (base_of sources) sources.scenario.top) → IsStatusOr 0 before status ⊎ IsTrue (is_in (1 ∷ 4 ∷ 7 ∷ []) status)
+  seek-complete files sources (SeekStopped s none alone) modelled is fit = inl (halted-held (seek_inputs names) before after status 0 files (whole_of sources) s modelled (sought-inputs files names sources is))
+  seek-complete files sources (SeekOutOfMemory s alone) modelled is fit = inl (inr (inl s.status_is))
+  seek-complete files sources (NoTop own rec are can of six kept alone said same) modelled is fit =
+      let one : own ≡ sources = same-sources files own sources are modelled is in
       absurd (true≢false (sym fit ∙ subst (λ (z : Sources). fits_at (base_of z) z.scenario.top ≡ false) one (starts-fit (base_of own) own.scenario.top false can of.starts)))
-  seek-complete files sources (TopOpen own rec are can of seven kept alone said same) told is fit = inr (one-of (1 ∷ 4 ∷ 7 ∷ []) status 7 seven refl)
-  seek-complete files sources (TopFound own x are can least kept lower d) told is fit = by (ended-of (seek_texts names x.rec) (top_text x.top x.is_open) (top_status x.is_open) before after status d)
+  seek-complete files sources (TopOpen own rec are can of seven kept alone said same) modelled is fit = inr (one-of (1 ∷ 4 ∷ 7 ∷ []) status 7 seven refl)
+  seek-complete files sources (TopFound own x are can least kept lower d) modelled is fit = by (ended-of (seek_texts names x.rec) (top_text x.top x.is_open) (top_status x.is_open) before after status d)
     where
-      by : Ended (seek_texts names x.rec) (top_text x.top x.is_open) (top_status x.is_open) before after status → IsOr 0 before status ⊎ IsTrue (is_in (1 ∷ 4 ∷ 7 ∷ []) status)
+      by : Ended (seek_texts names x.rec) (top_text x.top x.is_open) (top_status x.is_open) before after status → IsStatusOr 0 before status ⊎ IsTrue (is_in (1 ∷ 4 ∷ 7 ∷ []) status)
       by (Both done all writes) = elim (either x.is_open status done) [
         | inl zero ↦ inl (inl zero)
         | inr one ↦ inr (one-of (1 ∷ 4 ∷ 7 ∷ []) status 1 one refl)
@@ -548,19 +548,19 @@ module _ (names : SeekNames) (before after : Outside) (status : ℕ) (found belo
 
   -- No station starts on air.
   seek-nobody : (files : List StoredFile) (sources : Sources) → SeekEnds names before after status found below → before.files ≡ Some files → seekable_of files (seek_inputs names) ≡ Ok sources →
-      start_set sources.scenario ≡ [] → IsOr 0 before status ⊎ (status ≡ 4)
-  seek-nobody files sources (SeekStopped s none alone) told is nobody = inl (halted-held (seek_inputs names) before after status 0 files (whole_of sources) s told (sought-inputs files names sources is))
-  seek-nobody files sources (SeekStarved s alone) told is nobody = inl (inr (inl s.status_is))
-  seek-nobody files sources (NoTop own rec are can of six kept alone said same) told is nobody =
-      absurd (nobody-unfit (base_of own) can (ap (λ (z : Sources). start_set z.scenario) (same-sources files own sources are told is) ∙ nobody) own.scenario.top rec of)
-  seek-nobody files sources (TopOpen own rec are can of seven kept alone said same) told is nobody =
-      absurd (nobody-open (base_of own) can (ap (λ (z : Sources). start_set z.scenario) (same-sources files own sources are told is) ∙ nobody) own.scenario.top rec of)
-  seek-nobody files sources (TopFound own x are can least kept lower d) told is nobody = by (ended-of (seek_texts names x.rec) (top_text x.top x.is_open) (top_status x.is_open) before after status d)
+      start_set sources.scenario ≡ [] → IsStatusOr 0 before status ⊎ (status ≡ 4)
+  seek-nobody files sources (SeekStopped s none alone) modelled is nobody = inl (halted-held (seek_inputs names) before after status 0 files (whole_of sources) s modelled (sought-inputs files names sources is))
+  seek-nobody files sources (SeekOutOfMemory s alone) modelled is nobody = inl (inr (inl s.status_is))
+  seek-nobody files sources (NoTop own rec are can of six kept alone said same) modelled is nobody =
+      absurd (nobody-unfit (base_of own) can (ap (λ (z : Sources). start_set z.scenario) (same-sources files own sources are modelled is) ∙ nobody) own.scenario.top rec of)
+  seek-nobody files sources (TopOpen own rec are can of seven kept alone said same) modelled is nobody =
+      absurd (nobody-open (base_of own) can (ap (λ (z : Sources). start_set z.scenario) (same-sources files own sources are modelled is) ∙ nobody) own.scenario.top rec of)
+  seek-nobody files sources (TopFound own x are can least kept lower d) modelled is nobody = by (ended-of (seek_texts names x.rec) (top_text x.top x.is_open) (top_status x.is_open) before after status d)
     where
       shut : x.is_open ≡ false
-      shut = let found = nobody-least (base_of own) can (ap (λ (z : Sources). start_set z.scenario) (same-sources files own sources are told is) ∙ nobody) x least in found.1
+      shut = let found = nobody-least (base_of own) can (ap (λ (z : Sources). start_set z.scenario) (same-sources files own sources are modelled is) ∙ nobody) x least in found.1
 
-      by : Ended (seek_texts names x.rec) (top_text x.top x.is_open) (top_status x.is_open) before after status → IsOr 0 before status ⊎ (status ≡ 4)
+      by : Ended (seek_texts names x.rec) (top_text x.top x.is_open) (top_status x.is_open) before after status → IsStatusOr 0 before status ⊎ (status ≡ 4)
       by (Both done all writes) = inl (inl (done ∙ ap top_status shut))
       by (NotSaid four all rises less said) = inr four
       by (NotStored y four part rises unsteady said) = inr four
@@ -568,9 +568,9 @@ module _ (names : SeekNames) (before after : Outside) (status : ℕ) (found belo
 
   seek-fourteen : (files : List StoredFile) (sources : Sources) → SeekEnds names before after status found below → before.files ≡ Some files → seekable_of files (seek_inputs names) ≡ Ok sources →
       start_set sources.scenario ≡ [] → status ≡ 0 → Writes before.held after.held (top_text 14 false) (Ok tt)
-  seek-fourteen files sources end told is nobody zero =
+  seek-fourteen files sources end modelled is nobody zero =
       let (of, none_less, shown, writes) = seek-least end zero in
-      let one : of.sources ≡ sources = same-sources files of.sources sources of.sought told is in
+      let one : of.sources ≡ sources = same-sources files of.sources sources of.sought modelled is in
       let found = nobody-least (base_of of.sources) of.seekable (ap (λ (z : Sources). start_set z.scenario) one ∙ nobody) of.x of.least in
       subst (λ top. Writes before.held after.held (top_text top false) (Ok tt)) found.0 writes
 
@@ -589,14 +589,14 @@ module _ (names : SeekNames) (before after : Outside) (status : ℕ) (found belo
     of = λ h. let r = reached end h in r.of;
     done = seek-done end;
     least = seek-least end;
-    starved = seek-starved end;
-    stored = λ files told h. seek-stored files end told h;
+    out_of_memory = seek-starved end;
+    stored = λ files modelled h. seek-stored files end modelled h;
     unfit = seek-unfit end;
     left_open = seek-open end;
-    unfits = λ files sources told is unfit. seek-unfits files sources end told is unfit;
-    complete = λ files sources told is fit. seek-complete files sources end told is fit;
-    nobody = λ files sources told is nobody. (seek-nobody files sources end told is nobody, seek-fourteen files sources end told is nobody);
+    unfits = λ files sources modelled is unfit. seek-unfits files sources end modelled is unfit;
+    complete = λ files sources modelled is fit. seek-complete files sources end modelled is fit;
+    nobody = λ files sources modelled is nobody. (seek-nobody files sources end modelled is nobody, seek-fourteen files sources end modelled is nobody);
     unwritten = seek-wrote end;
     alone = seek-alone end;
-    others = λ files told. seek-others files end told;
+    others = λ files modelled. seek-others files end modelled;
   }

@@ -2,14 +2,14 @@
 use Rattle.std.proofs.Common.{◌≡◌, ◌∙◌, ℕ, ap, subst, Option, Some, None}
 use Rattle.auction_core.specs.Backed.{undecided_of}
 use Rattle.auction_core.specs.declared.record.Record.{Record}
-use Rattle.open_tests.specs.Queries.{step_numbered}
+use Rattle.undecided_tests.specs.Queries.{step_numbered}
 use Rattle.commands.specs.declared.inputs.Inputs.{Inputs}
 use Rattle.commands.specs.declared.settling.StepFault.{StepFault}
 use Rattle.commands.specs.Delivery.{IsNotStored, IsPrinted, IsStored, NamedText}
 use Rattle.commands.specs.Ends.{ExportEnds, IsShown, VerifyEnds}
 use Rattle.commands.specs.Ends.ExportEnds.{NoStep}
 use Rattle.commands.specs.Ends.VerifyEnds.{Sound}
-use Rattle.commands.specs.Outside.{IsSaid, Outside}
+use Rattle.commands.specs.Outside.{IsLinePrinted, Outside}
 use Rattle.commands.specs.Records.{done_status, result_of}
 use Rattle.commands.specs.Settling.{missing_fault, step_line}
 use Rattle.command_words.specs.Words.{ExportNames, VerifyNames}
@@ -27,9 +27,9 @@ export-since names before between after status found same ends = subst (λ (b : 
 
 -- There is no such step to export, and a line says so.
 pub no-step : (names : ExportNames) (before between after : Outside) (status : ℕ) (found : Option Record) (inputs : Inputs) (rec : Record) (fault : StepFault) → IsShown names.shown before inputs rec → missing_fault (step_numbered rec.steps names.step) ≡ Some fault
-    → status ≡ 10 → found ≡ None → between ≡ before → IsSaid between after (step_line names.step fault) → after.files ≡ between.files → ExportEnds names before after status found
+    → status ≡ 10 → found ≡ None → between ≡ before → IsLinePrinted between after (step_line names.step fault) → after.files ≡ between.files → ExportEnds names before after status found
 no-step names before between after status found inputs rec fault s is ten none same said files =
-    NoStep inputs rec fault s is ten none (subst (λ (b : Outside). IsSaid b after (step_line names.step fault)) same said) (files ∙ ap (λ (o : Outside). o.files) same)
+    NoStep inputs rec fault s is ten none (subst (λ (b : Outside). IsLinePrinted b after (step_line names.step fault)) same said) (files ∙ ap (λ (o : Outside). o.files) same)
 
 -- A text was stored, or not.
 pub stored-so : (x : NamedText) (before between after : Outside) → between ≡ before → IsStored x between after → IsStored x before after

@@ -14,35 +14,35 @@ use Rattle.transcript_text.specs.Steps.{Fails}
 use Rattle.auction_core.specs.declared.prefix.ShownWhy.{ShownWhy}
 use Rattle.auction_core.specs.NotShown.{not_shown}
 use Rattle.transcript_check.specs.Sound.{IsSound, transcript_record}
-use Rattle.commands.specs.declared.fault.TranscriptFault.TheVariants.{Unshown}
+use Rattle.commands.specs.declared.messages.fault.TranscriptFault.TheVariants.{Unshown}
 use Rattle.commands.specs.declared.inputs.Inputs.{Inputs}
-use Rattle.commands.specs.declared.shown.Denied.{Denied}
-use Rattle.commands.specs.declared.shown.Denied.TheVariants.{Fault, NoMemory}
+use Rattle.commands.specs.declared.shown.RecordErr.{RecordErr}
+use Rattle.commands.specs.declared.shown.RecordErr.TheVariants.{Fault, NoMemory}
 use Rattle.commands.specs.Ends.{AreInputsOf, IsTextHeld, VerifyEnds}
 use Rattle.commands.specs.Ends.IsNotLoaded.{Unloaded, LongText}
-use Rattle.commands.specs.Ends.VerifyEnds.{NotLoaded, NotSound, VerifyStarved}
+use Rattle.commands.specs.Ends.VerifyEnds.{NotLoaded, NotSound, VerifyOutOfMemory}
 use Rattle.commands.specs.Outside.{Outside}
 use Rattle.commands.specs.Records.{IsRecordIn}
-use Rattle.commands.specs.Transcripts.{ExplainsDenied, ExplainsLoad, IsTextRead, IsVerdict, not_read}
+use Rattle.commands.specs.Shown.{ExplainsRecordErr, ExplainsLoad, IsTextRead, IsVerdict, not_read}
 use Rattle.commands.specs.Verified.{CanBeNamed, record_by, shown_or, verified}
 use Rattle.command_words.specs.Words.{VerifyNames}
 use Rattle.commands.proofs.RecordLemmas.{record-in}
-use Rattle.commands.proofs.SaysLemmas.{rises-before}
+use Rattle.commands.proofs.MessageLemmas.{rises-before}
 
 -- ---- the reading
 
 -- The ending of a transcript that was not loaded.
-pub unloaded-ends : (names : VerifyNames) (before after : Outside) (status : ℕ) (found : Option Record) (inputs : Inputs) (why : LoadErr) (told : Option (List StoredFile)) (steady : Bool) (faults come : ℕ) →
-    AreInputsOf names.inputs before inputs → told ≡ before.files → steady ≡ before.steady → before.faults ≤ faults →
-    IsTextRead inputs told steady faults after.faults come names.transcript (Err why) →
+pub unloaded-ends : (names : VerifyNames) (before after : Outside) (status : ℕ) (found : Option Record) (inputs : Inputs) (why : LoadErr) (modelled : Option (List StoredFile)) (steady : Bool) (faults come : ℕ) →
+    AreInputsOf names.inputs before inputs → modelled ≡ before.files → steady ≡ before.steady → before.faults ≤ faults →
+    IsTextRead inputs modelled steady faults after.faults come names.transcript (Err why) →
     ExplainsLoad names.transcript why before.held after.held before.cuts after.cuts status →
     found ≡ None → after.files ≡ before.files → VerifyEnds names before after status found
-unloaded-ends names before after status found inputs Failed told steady faults come are is same kept h e none files =
+unloaded-ends names before after status found inputs Failed modelled steady faults come are is same kept h e none files =
     NotLoaded inputs are (Unloaded e.0 (rises-before before.faults faults after.faults kept h.0) (λ own at still. h.1 own (is ∙ at) (same ∙ still)) e.1) none files
-unloaded-ends names before after status found inputs TooLong told steady faults come are is same kept h e none files =
+unloaded-ends names before after status found inputs TooLong modelled steady faults come are is same kept h e none files =
     NotLoaded inputs are (LongText e.0 (λ own at. h own (is ∙ at)) e.1) none files
-unloaded-ends names before after status found inputs NoLoad told steady faults come are is same kept h e none files =
-    VerifyStarved (record { status_is = e.0; found_is = none; line = e.1; files = files })
+unloaded-ends names before after status found inputs NoLoad modelled steady faults come are is same kept h e none files =
+    VerifyOutOfMemory (record { status_is = e.0; found_is = none; line = e.1; files = files })
 
 -- ---- the check
 
@@ -62,7 +62,7 @@ pub unshown-verdict : (inputs : Inputs) (t : Transcript) (step : ℕ) (why : Sho
 unshown-verdict inputs t step why is = ap (λ o. shown_or o (transcript_record inputs.scenario inputs.book t)) is
 
 -- The verdict on what was read is the verdict on the text.
-pub read-verdict : (inputs : Inputs) (text : List ℕ) (t : Transcript) (result : Result Record Denied) → transcript_of inputs.scenario inputs.book text ≡ Ok t →
+pub read-verdict : (inputs : Inputs) (text : List ℕ) (t : Transcript) (result : Result Record RecordErr) → transcript_of inputs.scenario inputs.book text ≡ Ok t →
     IsVerdict inputs (record_by inputs (Ok t)) result → IsVerdict inputs (verified inputs text) result
 unfolding verified
 read-verdict inputs text t result is h = subst (λ o. IsVerdict inputs (record_by inputs o) result) (sym is) h
@@ -76,10 +76,10 @@ unread-verdict inputs text Truncated is = ap (record_by inputs) is
 unread-verdict inputs text NoRoom is = tt
 
 -- The ending without a record.
-pub denied-ends : (names : VerifyNames) (before after : Outside) (status : ℕ) (found : Option Record) (inputs : Inputs) (text : List ℕ) (why : Denied) →
+pub denied-ends : (names : VerifyNames) (before after : Outside) (status : ℕ) (found : Option Record) (inputs : Inputs) (text : List ℕ) (why : RecordErr) →
     AreInputsOf names.inputs before inputs → CanBeNamed inputs → IsTextHeld names before text → IsVerdict inputs (verified inputs text) (Err why) →
-    ExplainsDenied names.transcript why before.held after.held before.cuts after.cuts status →
+    ExplainsRecordErr names.transcript why before.held after.held before.cuts after.cuts status →
     found ≡ None → after.files ≡ before.files → VerifyEnds names before after status found
 denied-ends names before after status found inputs text (Fault fault) are can held is e none files = NotSound inputs text fault are can held is e.0 none e.1 files
 denied-ends names before after status found inputs text NoMemory are can held is e none files =
-    VerifyStarved (record { status_is = e.0; found_is = none; line = e.1; files = files })
+    VerifyOutOfMemory (record { status_is = e.0; found_is = none; line = e.1; files = files })

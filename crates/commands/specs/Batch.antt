@@ -4,8 +4,8 @@ use Rattle.std.specs.Prelude.{ℕ, Bool, true, false, ◌==◌, ◌++◌, if◌t
 use Rattle.std.specs.List.{list_any}
 use Rattle.outside_io.specs.Files.{StoredFile}
 use Rattle.constraint_files.specs.Domains.{domains_of}
-use Rattle.constraint_files.specs.Rows.{pairs_of}
-use Rattle.scenario_json.specs.Joined.{joined}
+use Rattle.constraint_files.specs.PairTable.{pairs_of}
+use Rattle.scenario_json.specs.Join.{joined}
 use Rattle.scenario_json.specs.ScenarioOf.{scenario_of}
 use Rattle.batch_list.specs.ListOf.{ListedNames, list_of}
 use Rattle.batch_list.specs.Repeated.{repeated_result}
@@ -16,13 +16,13 @@ use Rattle.auction_core.specs.declared.record.Ending.TheVariants.{Done, StartRef
 use Rattle.auction_core.specs.declared.record.Record.{Record}
 use Rattle.auction_core.specs.Backed.{undecided_of}
 use Rattle.result_text.specs.ResultText.{count_line}
-use Rattle.commands.specs.declared.batch_inputs.Constraints.{Constraints}
-use Rattle.commands.specs.declared.batch_inputs.Listed.{Listed}
+use Rattle.commands.specs.declared.inputs.batch_inputs.Constraints.{Constraints}
+use Rattle.commands.specs.declared.inputs.batch_inputs.Listed.{Listed}
 use Rattle.commands.specs.declared.inputs.Inputs.{Inputs}
-use Rattle.commands.specs.declared.input_file.Stop.{Stop}
-use Rattle.commands.specs.declared.input_file.Stop.TheVariants.{Refused, NoMemory}
+use Rattle.commands.specs.declared.inputs.input_file.Stop.{Stop}
+use Rattle.commands.specs.declared.inputs.input_file.Stop.TheVariants.{Refused, NoMemory}
 use Rattle.command_words.specs.declared.run_words.Input.TheVariants.{Domains, Rows, Scenario as ScenarioFile, List as ListFile}
-use Rattle.commands.specs.declared.refusal.Refusal.TheVariants.{BadLine, EmptyList}
+use Rattle.commands.specs.declared.messages.refusal.Refusal.TheVariants.{BadLine, EmptyList}
 use Rattle.commands.specs.Delivery.{NamedText, named}
 use Rattle.commands.specs.Inputs.{and_then, file_of, inputs_from, rows_read, scenario_read}
 use Rattle.commands.specs.Records.{done_status, result_of, run_order}
@@ -70,8 +70,8 @@ listing_of files names =
     Ok (record { constraints = constraints; lines = lines })))
 
 -- The inputs that the scenario of this name makes beside these constraint files, or what stops its reading.
-unfoldable pub inputs_beside : List StoredFile → Constraints → List ℕ → Result Inputs Stop
-inputs_beside files c name =
+unfoldable pub inputs_with_constraints : List StoredFile → Constraints → List ℕ → Result Inputs Stop
+inputs_with_constraints files c name =
     and_then (and_then (file_of files name ScenarioFile) (λ bytes. scenario_read (scenario_of bytes))) (λ sc.
     inputs_from sc c.pairs (joined sc c.domains c.pairs.list))
 
@@ -99,7 +99,7 @@ once_each lines (Some name) = Err (Twice name)
 abbrev pub each_inputs : List StoredFile → BatchNames → Constraints → List ListedNames → Result (List Inputs) BatchStop
 each_inputs files names c [] = Ok []
 each_inputs files names c (line ∷ lines) =
-    unless_stopped (among (inputs_with names line.scenario) (inputs_beside files c line.scenario)) (λ inputs.
+    unless_stopped (among (inputs_with names line.scenario) (inputs_with_constraints files c line.scenario)) (λ inputs.
     unless_stopped (each_inputs files names c lines) (λ more. Ok (inputs ∷ more)))
 
 -- A batch: the lines of its list, and the inputs of each line's scenario.

@@ -3,17 +3,17 @@ use Rattle.std.specs.Prelude.{Contains, ◌≡◌, ◌⊎◌, ℕ, Bool, true, L
 use Rattle.batch_list.specs.ListOf.{ListedNames}
 use Rattle.outside_io.specs.Files.{StoredFile}
 use Rattle.auction_core.specs.declared.record.Record.{Record}
-use Rattle.commands.specs.declared.batch_inputs.Constraints.{Constraints}
+use Rattle.commands.specs.declared.inputs.batch_inputs.Constraints.{Constraints}
 use Rattle.commands.specs.declared.inputs.Inputs.{Inputs}
-use Rattle.commands.specs.declared.input_file.Stop.TheVariants.{CannotRead, Refused, NoMemory}
+use Rattle.commands.specs.declared.inputs.input_file.Stop.TheVariants.{CannotRead, Refused, NoMemory}
 use Rattle.commands.specs.Batch.{BatchStop, Unread, Twice, HeldBatch, batch_of, batch_status, batch_texts, listing_of, status_lines}
 use Rattle.command_words.specs.Words.{inputs_with}
 use Rattle.commands.specs.Delivery.{Delivers}
-use Rattle.commands.specs.Ends.{ExplainsHalt, IsStarved}
+use Rattle.commands.specs.Ends.{ExplainsHalt, EndsOutOfMemory}
 use Rattle.commands.specs.Inputs.{CountsFault}
 use Rattle.commands.specs.Outside.{Outside}
 use Rattle.commands.specs.Records.{IsRecordBy}
-use Rattle.commands.specs.Says.{Says, twice_line}
+use Rattle.commands.specs.Messages.{PrintsText, twice_line}
 use Rattle.commands.specs.Statuses.{REFUSED}
 use Rattle.command_words.specs.Words.{BatchNames, InputNames}
 
@@ -33,7 +33,7 @@ CountsStop before now (Twice name) = now ≡ before
 -- The status and the line for what stopped the reading.
 abbrev pub ExplainsStop : BatchStop → Option (List ℕ) → Option (List ℕ) → ℕ → ℕ → ℕ → Type 0
 ExplainsStop (Unread names why) held held' cuts cuts' status = ExplainsHalt names why held held' cuts cuts' status
-ExplainsStop (Twice name) held held' cuts cuts' status = (status ≡ REFUSED) × Says held held' cuts cuts' (twice_line name)
+ExplainsStop (Twice name) held held' cuts cuts' status = (status ≡ REFUSED) × PrintsText held held' cuts cuts' (twice_line name)
 
 -- The names are those of the constraint files with the list, or of the constraint files with the scenario of one of these lines.
 abbrev pub IsUnderOneOf : BatchNames → List ListedNames → InputNames → Type 0
@@ -56,7 +56,7 @@ StopsUnder Under (Twice name) = ⊤
 pub record IsReadingStopped {A : Type 0} (reads : List StoredFile → Result A BatchStop) (Under : InputNames → Type 0) (before after : Outside) (status : ℕ) : Type 0 where
   pub stop : BatchStop
   pub under : StopsUnder Under stop
-  pub told : (files : List StoredFile) → before.files ≡ Some files → StopsAsHeld before.steady (reads files) stop
+  pub modelled : (files : List StoredFile) → before.files ≡ Some files → StopsAsHeld before.steady (reads files) stop
   pub counted : CountsStop before.faults after.faults stop
   pub explains : ExplainsStop stop before.held after.held before.cuts after.cuts status
   pub files : after.files ≡ before.files
@@ -86,7 +86,7 @@ AreRecordsOf held recs = EachOf (λ line i rec. IsRecordBy i rec rec.ending) hel
 -- results are stored and then their status lines printed, up to the first failure.
 pub data BatchEnds (names : BatchNames) (before after : Outside) (status : ℕ) (batch : List Record) : Type 0 where
   BatchStopped : IsBatchStopped names before after status → batch ≡ [] → BatchEnds names before after status batch
-  BatchStarved : IsStarved before after status None → batch ≡ [] → BatchEnds names before after status batch
+  BatchOutOfMemory : EndsOutOfMemory before after status None → batch ≡ [] → BatchEnds names before after status batch
   BatchRan : (held : HeldBatch) → IsBatchHeld names before held → AreRecordsOf held batch →
       Delivers (batch_texts held batch) (status_lines held.lines batch) (batch_status batch) before after status →
       BatchEnds names before after status batch

@@ -6,29 +6,29 @@ use Rattle.outside_io.specs.Files.{StoredFile}
 use Rattle.outside_io.specs.Loads.{Writes}
 use Rattle.auction_core.specs.declared.record.Record.{Record}
 use Rattle.commands.specs.declared.inputs.Inputs.{Inputs}
-use Rattle.commands.specs.Counts.{counts_text}
+use Rattle.commands.specs.Check.{counts_text}
 use Rattle.commands.specs.Inputs.{inputs_of}
-use Rattle.commands.specs.Outside.{Outside, IsSaid}
+use Rattle.commands.specs.Outside.{Outside, IsLinePrinted}
 use Rattle.commands.specs.Statuses.{DONE, LEFT_OPEN, UNWRITTEN, START_UNFIT, START_OPEN, NOT_SHOWN, NOT_SETTLED}
-use Rattle.commands.specs.VerifyPromises.{IsOr}
+use Rattle.commands.specs.VerifyPromises.{IsStatusOr}
 use Rattle.command_words.specs.Words.{InputNames}
 
 -- What `check` promises where the folder's files are modelled.
-pub record ToldCheck (files : List StoredFile) (names : InputNames) (before after : Outside) (status : ℕ) : Type 0 where
+pub record ModelledCheck (files : List StoredFile) (names : InputNames) (before after : Outside) (status : ℕ) : Type 0 where
   -- At status 0 the files hold accepted inputs, and the sink grew by their counts.
   pub counted : status ≡ DONE → (inputs : Inputs) × (inputs_of files names ≡ Ok inputs) × Writes before.held after.held (counts_text inputs) (Ok tt)
   -- At status 4 the inputs are accepted, and the sink's fault count rose. The sink grew by the counts or by some of them, from
   -- the first byte on. The status is not 4 if the sink guarantees room for the counts.
   pub cut : status ≡ UNWRITTEN →
-      (inputs : Inputs) × (inputs_of files names ≡ Ok inputs) × HasRisen before.cuts after.cuts × IsSaid before after (counts_text inputs)
+      (inputs : Inputs) × (inputs_of files names ≡ Ok inputs) × HasRisen before.cuts after.cuts × IsLinePrinted before after (counts_text inputs)
   pub surely_counted : ((inputs : Inputs) → inputs_of files names ≡ Ok inputs → length (counts_text inputs) ≤ before.sure) → status ≢ UNWRITTEN
   -- Accepted inputs end at status 0 or 4, unless memory ran out or an unsteady folder failed to read.
-  pub counts : (inputs : Inputs) → inputs_of files names ≡ Ok inputs → IsOr DONE before status ⊎ (status ≡ UNWRITTEN)
+  pub counts : (inputs : Inputs) → inputs_of files names ≡ Ok inputs → IsStatusOr DONE before status ⊎ (status ≡ UNWRITTEN)
 
 -- What `check` promises, by its status and its record.
 pub record CheckPromises (names : InputNames) (before after : Outside) (status : ℕ) (found : Option Record) : Type 0 where
-  -- Where the folder's files are modelled, `check` keeps the promises of `ToldCheck`.
-  pub told : (files : List StoredFile) → before.files ≡ Some files → ToldCheck files names before after status
+  -- Where the folder's files are modelled, `check` keeps the promises of `ModelledCheck`.
+  pub modelled : (files : List StoredFile) → before.files ≡ Some files → ModelledCheck files names before after status
   -- It has no record, and its status is not 1, 6, 7, 9 or 10.
   pub no_record : found ≡ None
   pub never : IsFalse (is_in (LEFT_OPEN ∷ START_UNFIT ∷ START_OPEN ∷ NOT_SHOWN ∷ NOT_SETTLED ∷ []) status)

@@ -6,8 +6,8 @@ use Rattle.outside_io.specs.Loads.{Stores, Writes}
 use Rattle.outside_io.specs.declared.folder.NewFile.{NewFile}
 use Rattle.outside_io.specs.declared.folder.StoreErr.{StoreErr}
 use Rattle.outside_io.specs.declared.folder.StoreErr.TheVariants.{Failed, NoMemory}
-use Rattle.commands.specs.Outside.{Outside, IsSaid}
-use Rattle.commands.specs.Says.{Says, memory_line, unwritten_line}
+use Rattle.commands.specs.Outside.{Outside, IsLinePrinted}
+use Rattle.commands.specs.Messages.{PrintsText, memory_line, unwritten_line}
 use Rattle.commands.specs.Statuses.{UNWRITTEN, NO_MEMORY}
 
 -- A text, and the name to store it under.
@@ -35,14 +35,14 @@ pub record IsStored (x : NamedText) (before after : Outside) : Type 0 where
 -- The text was not stored, and the line says so. Either the store failed in a folder that isn't steady, or memory ran out.
 pub data IsNotStored (x : NamedText) (before after : Outside) (status : ℕ) : Type 0 where
   Unwritten : status ≡ UNWRITTEN → Stores before.files after.files x.name x.text (Err Failed) → HasRisen before.faults after.faults →
-      before.steady ≢ true → IsSaid before after (unwritten_line x.name) → IsNotStored x before after status
-  OutOfRoom : status ≡ NO_MEMORY → Stores before.files after.files x.name x.text (Err NoMemory) → IsSaid before after memory_line →
+      before.steady ≢ true → IsLinePrinted before after (unwritten_line x.name) → IsNotStored x before after status
+  OutOfRoom : status ≡ NO_MEMORY → Stores before.files after.files x.name x.text (Err NoMemory) → IsLinePrinted before after memory_line →
       IsNotStored x before after status
 
 -- The status and the line for a text that was not stored: the file can't be written, or memory ran out.
 abbrev pub ExplainsStore : List ℕ → StoreErr → Option (List ℕ) → Option (List ℕ) → ℕ → ℕ → ℕ → Type 0
-ExplainsStore name Failed held held' cuts cuts' status = (status ≡ UNWRITTEN) × Says held held' cuts cuts' (unwritten_line name)
-ExplainsStore name NoMemory held held' cuts cuts' status = (status ≡ NO_MEMORY) × Says held held' cuts cuts' memory_line
+ExplainsStore name Failed held held' cuts cuts' status = (status ≡ UNWRITTEN) × PrintsText held held' cuts cuts' (unwritten_line name)
+ExplainsStore name NoMemory held held' cuts cuts' status = (status ≡ NO_MEMORY) × PrintsText held held' cuts cuts' memory_line
 
 -- The text was printed, and the status is `done`. Or the sink failed, without having guaranteed room for the text, and holds the
 -- text or some of it from the first byte on. No file changed.
@@ -50,7 +50,7 @@ pub data IsPrinted (text : List ℕ) (done : ℕ) (before after : Outside) (stat
   Written : status ≡ done → after.files ≡ before.files → Writes before.held after.held text (Ok tt) →
       IsPrinted text done before after status
   CutShort : status ≡ UNWRITTEN → after.files ≡ before.files → HasRisen before.cuts after.cuts → before.sure < length text →
-      IsSaid before after text → IsPrinted text done before after status
+      IsLinePrinted before after text → IsPrinted text done before after status
 
 -- What is left outside after these texts are stored in order and then the summary is printed. Either each text was stored and the
 -- summary printed as `IsPrinted` says, or the first text that was not stored ended the delivery.
@@ -82,8 +82,8 @@ abbrev pub IsOther : List (List ℕ) → List ℕ → Type 0
 IsOther names other = All (λ name. other ≢ name) names
 
 -- All files except those of these names are unchanged.
-abbrev pub AllOthersStand : List StoredFile → List StoredFile → List (List ℕ) → Type 0
-AllOthersStand old new names = (other : List ℕ) → IsOther names other → bytes_of new other ≡ bytes_of old other
+abbrev pub AllOthersUnchanged : List StoredFile → List StoredFile → List (List ℕ) → Type 0
+AllOthersUnchanged old new names = (other : List ℕ) → IsOther names other → bytes_of new other ≡ bytes_of old other
 
 -- The file of each text's name holds that text.
 abbrev pub AreHeldUnder : List StoredFile → List NamedText → Type 0
@@ -92,7 +92,7 @@ AreHeldUnder new xs = All (λ x. bytes_of new x.name ≡ Some x.text) xs
 -- The file of each text's name holds that text, and all other files are unchanged.
 pub record AreStored (old new : List StoredFile) (xs : List NamedText) : Type 0 where
   pub hold : AreHeldUnder new xs
-  pub others : AllOthersStand old new (names_of xs)
+  pub others : AllOthersUnchanged old new (names_of xs)
 
 -- The first of the texts are stored under their names. The next text's name may hold anything or be gone. All other files are
 -- unchanged, also those of the names after it.
@@ -102,4 +102,4 @@ pub record AreStoredUpTo (old new : List StoredFile) (xs : List NamedText) : Typ
   pub left : List NamedText
   pub parts : stored ++ failed ∷ left ≡ xs
   pub hold : AreHeldUnder new stored
-  pub others : AllOthersStand old new (names_of stored ++ failed.name ∷ [])
+  pub others : AllOthersUnchanged old new (names_of stored ++ failed.name ∷ [])

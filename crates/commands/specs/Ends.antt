@@ -5,36 +5,36 @@ use Rattle.outside_io.specs.Faults.{HasRisen}
 use Rattle.outside_io.specs.Files.{StoredFile, bytes_of}
 use Rattle.outside_io.specs.Loads.{Writes}
 use Rattle.commands.specs.declared.inputs.Inputs.{Inputs}
-use Rattle.commands.specs.declared.input_file.Stop.{Stop}
-use Rattle.commands.specs.declared.input_file.Stop.TheVariants.{CannotRead, Refused, NoMemory}
-use Rattle.commands.specs.declared.fault.TranscriptFault.{TranscriptFault}
+use Rattle.commands.specs.declared.inputs.input_file.Stop.{Stop}
+use Rattle.commands.specs.declared.inputs.input_file.Stop.TheVariants.{CannotRead, Refused, NoMemory}
+use Rattle.commands.specs.declared.messages.fault.TranscriptFault.{TranscriptFault}
 use Rattle.commands.specs.declared.settling.StepFault.{StepFault}
-use Rattle.commands.specs.declared.sources.Sources.{Sources}
-use Rattle.commands.specs.declared.tops.LeastTop.{LeastTop}
+use Rattle.commands.specs.declared.inputs.sources.Sources.{Sources}
+use Rattle.commands.specs.declared.top_channel_runs.LeastTop.{LeastTop}
 use Rattle.pack_defs.specs.declared.order.Order.{Order}
 use Rattle.auction_core.specs.declared.record.Record.{Record}
 use Rattle.auction_core.specs.Backed.{undecided_of}
-use Rattle.commands.specs.Counts.{counts_text}
+use Rattle.commands.specs.Check.{counts_text}
 use Rattle.commands.specs.Delivery.{AreAllStored, Delivers, IsNotStored, IsPrinted, IsStored, NamedText, StopsAtOne, named}
 use Rattle.commands.specs.Inputs.{Agrees, CountsFault, file_limit, inputs_of, transcript_limit}
-use Rattle.commands.specs.Made.{HasRun, made_inputs, made_texts}
-use Rattle.commands.specs.Outside.{Outside, IsSaid}
+use Rattle.commands.specs.Make.{HasRun, make_inputs, make_texts}
+use Rattle.commands.specs.Outside.{Outside, IsLinePrinted}
 use Rattle.commands.specs.Plan.{Plan, no_command, repeats, runs, checks, verifies, seeks, makes, exports, imports}
 use Rattle.commands.specs.Records.{IsOpenRecordIn, IsOpenRecordOf, IsRecordIn, IsRefutedRecordIn, IsRefutedRecordOf, done_status, result_of, run_order, summary_in}
-use Rattle.commands.specs.Refusals.{refusal_line}
+use Rattle.commands.specs.Refusal.{refusal_line}
 use Rattle.command_words.specs.Words.{name_of}
-use Rattle.commands.specs.Says.{Says, long_line, memory_line, open_line, twice_line, unfit_line, unread_line}
+use Rattle.commands.specs.Messages.{PrintsText, long_line, memory_line, open_line, twice_line, unfit_line, unread_line}
 use Rattle.commands.specs.Seek.{IsLeastTop, IsSeekable, base_of, inputs_at, seekable_of, top_status, top_text}
 use Rattle.commands.specs.Settling.{unsettled_line, missing_fault, open_fault, step_line}
 use Rattle.commands.specs.Statuses.{DONE, NO_COMMAND, UNREAD, UNWRITTEN, REFUSED, START_UNFIT, START_OPEN, NO_MEMORY, NOT_SHOWN, NOT_SETTLED}
 use Rattle.commands.specs.Verified.{CanBeNamed, fault_line, verified}
 use Rattle.command_words.specs.Words.{ExportNames, ImportNames, InputNames, MakeNames, RunNames, SeekNames, VerifyNames, repeated_export, repeated_import, repeated_made, repeated_output, repeated_seek, seek_inputs}
 use Rattle.result_text.specs.ChannelsText.{channels_text}
-use Rattle.transcript_text.specs.Named.{IsHeld}
+use Rattle.transcript_text.specs.RoundTrip.{IsHeld}
 use Rattle.transcript_text.specs.Spelling.{transcript_text}
-use Rattle.open_tests.specs.Queries.{step_numbered}
-use Rattle.open_tests.specs.Settling.{formula_text, settled_text}
-use Rattle.open_tests.specs.declared.settle.SettleErr.{SettleErr}
+use Rattle.undecided_tests.specs.Queries.{step_numbered}
+use Rattle.undecided_tests.specs.Settling.{formula_text, settled_text}
+use Rattle.undecided_tests.specs.declared.settle.SettleErr.{SettleErr}
 
 -- ---- Reading the inputs
 
@@ -45,26 +45,26 @@ AreInputsOf names before inputs = (files : List StoredFile) → before.files ≡
 -- The status and the line for what stopped the reading: an unreadable file, a rejected input, or running out of memory.
 abbrev pub ExplainsHalt : InputNames → Stop → Option (List ℕ) → Option (List ℕ) → ℕ → ℕ → ℕ → Type 0
 ExplainsHalt names (CannotRead input) held held' cuts cuts' status =
-    (status ≡ UNREAD) × Says held held' cuts cuts' (unread_line (name_of names input))
+    (status ≡ UNREAD) × PrintsText held held' cuts cuts' (unread_line (name_of names input))
 ExplainsHalt names (Refused why) held held' cuts cuts' status =
-    (status ≡ REFUSED) × Says held held' cuts cuts' (refusal_line names why)
-ExplainsHalt names NoMemory held held' cuts cuts' status = (status ≡ NO_MEMORY) × Says held held' cuts cuts' memory_line
+    (status ≡ REFUSED) × PrintsText held held' cuts cuts' (refusal_line names why)
+ExplainsHalt names NoMemory held held' cuts cuts' status = (status ≡ NO_MEMORY) × PrintsText held held' cuts cuts' memory_line
 
 -- Reading the inputs stopped. Over modelled files it stopped at what they hold, unless memory ran out or an unsteady folder
 -- failed. The status and a line report the cause, the fault count rose only for an unreadable file, and no file changed.
 pub record IsHalted (names : InputNames) (before after : Outside) (status : ℕ) : Type 0 where
   pub stop : Stop
-  pub told : (files : List StoredFile) → before.files ≡ Some files →
+  pub modelled : (files : List StoredFile) → before.files ≡ Some files →
       Agrees {A = Inputs} {B = Inputs} (λ i. i) before.steady (inputs_of files names) (Err stop)
   pub counted : CountsFault {A = Inputs} before.faults after.faults (Err stop)
   pub explains : ExplainsHalt names stop before.held after.held before.cuts after.cuts status
   pub files : after.files ≡ before.files
 
--- Memory ran out: status 8 and its line, no record, and no file changed.
-pub record IsStarved (before after : Outside) (status : ℕ) (found : Option Record) : Type 0 where
+-- Status 8 and its line, no record, and no file changed. Whether memory really ran out is not asked.
+pub record EndsOutOfMemory (before after : Outside) (status : ℕ) (found : Option Record) : Type 0 where
   pub status_is : status ≡ NO_MEMORY
   pub found_is : found ≡ None
-  pub line : IsSaid before after memory_line
+  pub line : IsLinePrinted before after memory_line
   pub files : after.files ≡ before.files
 
 -- ---- The commands
@@ -85,9 +85,9 @@ auction_texts order names inputs rec =
 -- completed.
 pub data Concludes (order : Order) (names : RunNames) (inputs : Inputs) (rec : Record) (before after : Outside) (status : ℕ) (found : Option Record) : Type 0 where
   -- If the start set doesn't fit or its test is undecided, no file changes.
-  Unfit : IsRefutedRecordIn order inputs rec → status ≡ START_UNFIT → found ≡ Some rec → IsSaid before after unfit_line →
+  Unfit : IsRefutedRecordIn order inputs rec → status ≡ START_UNFIT → found ≡ Some rec → IsLinePrinted before after unfit_line →
       after.files ≡ before.files → Concludes order names inputs rec before after status found
-  StartOpen : IsOpenRecordIn order inputs rec → status ≡ START_OPEN → found ≡ Some rec → IsSaid before after open_line →
+  StartOpen : IsOpenRecordIn order inputs rec → status ≡ START_OPEN → found ≡ Some rec → IsLinePrinted before after open_line →
       after.files ≡ before.files → Concludes order names inputs rec before after status found
   -- The three texts are stored and then the summary printed, up to the first failure. The record can be written and read again if
   -- the channels are those of a file.
@@ -97,14 +97,14 @@ pub data Concludes (order : Order) (names : RunNames) (inputs : Inputs) (rec : R
       Concludes order names inputs rec before after status found
 
 -- Memory ran out, or the auction concludes with this record.
-abbrev pub ConcludesUnlessStarved : Order → RunNames → Inputs → Record → Outside → Outside → ℕ → Option Record → Type 0
-ConcludesUnlessStarved order names inputs rec before after status found =
-    IsStarved before after status found ⊎ Concludes order names inputs rec before after status found
+abbrev pub ConcludesUnlessOutOfMemory : Order → RunNames → Inputs → Record → Outside → Outside → ℕ → Option Record → Type 0
+ConcludesUnlessOutOfMemory order names inputs rec before after status found =
+    EndsOutOfMemory before after status found ⊎ Concludes order names inputs rec before after status found
 
 -- How a run in this order ends: an input stopped it, memory ran out, or the auction of its inputs concluded.
 pub data RunEnds (order : Order) (names : RunNames) (before after : Outside) (status : ℕ) (found : Option Record) : Type 0 where
   RunStopped : IsHalted names.inputs before after status → found ≡ None → RunEnds order names before after status found
-  RunStarved : IsStarved before after status found → RunEnds order names before after status found
+  RunOutOfMemory : EndsOutOfMemory before after status found → RunEnds order names before after status found
   Concluded : (inputs : Inputs) (rec : Record) → AreInputsOf names.inputs before inputs →
       Concludes order names inputs rec before after status found → RunEnds order names before after status found
 
@@ -112,13 +112,13 @@ pub data RunEnds (order : Order) (names : RunNames) (before after : Outside) (st
 -- and changes no file.
 pub data CheckEnds (names : InputNames) (before after : Outside) (status : ℕ) (found : Option Record) : Type 0 where
   CheckStopped : IsHalted names before after status → found ≡ None → CheckEnds names before after status found
-  CheckStarved : IsStarved before after status found → CheckEnds names before after status found
+  CheckOutOfMemory : EndsOutOfMemory before after status found → CheckEnds names before after status found
   Counted : (inputs : Inputs) → AreInputsOf names before inputs → status ≡ DONE → found ≡ None →
       Writes before.held after.held (counts_text inputs) (Ok tt) → after.files ≡ before.files →
       CheckEnds names before after status found
   CountsCut : (inputs : Inputs) → AreInputsOf names before inputs → status ≡ UNWRITTEN → found ≡ None →
       HasRisen before.cuts after.cuts → before.sure < length (counts_text inputs) →
-      IsSaid before after (counts_text inputs) → after.files ≡ before.files → CheckEnds names before after status found
+      IsLinePrinted before after (counts_text inputs) → after.files ≡ before.files → CheckEnds names before after status found
 
 -- Where the folder's files are modelled, they hold these sources, and each station of the scenario has a domain row.
 abbrev pub AreSought : SeekNames → Outside → Sources → Type 0
@@ -128,15 +128,15 @@ AreSought names before sources = (files : List StoredFile) → before.files ≡ 
 pub data SeekEnds (names : SeekNames) (before after : Outside) (status : ℕ) (found below : Option Record) : Type 0 where
   SeekStopped : IsHalted (seek_inputs names) before after status → found ≡ None → below ≡ None →
       SeekEnds names before after status found below
-  SeekStarved : IsStarved before after status found → below ≡ None → SeekEnds names before after status found below
+  SeekOutOfMemory : EndsOutOfMemory before after status found → below ≡ None → SeekEnds names before after status found below
   -- Up to the scenario's own top the start set doesn't fit or its test is undecided, and no file changes.
   NoTop : (sources : Sources) (rec : Record) → AreSought names before sources → IsSeekable (base_of sources) →
       IsRefutedRecordOf (inputs_at (base_of sources) sources.scenario.top) rec →
-      status ≡ START_UNFIT → found ≡ Some rec → below ≡ None → IsSaid before after unfit_line → after.files ≡ before.files →
+      status ≡ START_UNFIT → found ≡ Some rec → below ≡ None → IsLinePrinted before after unfit_line → after.files ≡ before.files →
       SeekEnds names before after status found below
   TopOpen : (sources : Sources) (rec : Record) → AreSought names before sources → IsSeekable (base_of sources) →
       IsOpenRecordOf (inputs_at (base_of sources) sources.scenario.top) rec →
-      status ≡ START_OPEN → found ≡ Some rec → below ≡ None → IsSaid before after open_line → after.files ≡ before.files →
+      status ≡ START_OPEN → found ≡ Some rec → below ≡ None → IsLinePrinted before after open_line → after.files ≡ before.files →
       SeekEnds names before after status found below
   -- The channels are stored and then the top printed, up to the first failure. The second record is of one channel less, if the
   -- top is above 14.
@@ -164,21 +164,21 @@ IsTextHeld names before text = IsHeldWithin transcript_limit names.transcript be
 pub data IsNotLoaded (most : ℕ) (name : List ℕ) (before after : Outside) (status : ℕ) : Type 0 where
   Unloaded : status ≡ UNREAD → HasRisen before.faults after.faults →
       ((files : List StoredFile) → before.files ≡ Some files → before.steady ≡ true → bytes_of files name ≡ None) →
-      IsSaid before after (unread_line name) → IsNotLoaded most name before after status
+      IsLinePrinted before after (unread_line name) → IsNotLoaded most name before after status
   LongText : status ≡ REFUSED →
       ((files : List StoredFile) → before.files ≡ Some files → (bytes : List ℕ) × (bytes_of files name ≡ Some bytes) × (most < length bytes)) →
-      IsSaid before after (long_line name) → IsNotLoaded most name before after status
+      IsLinePrinted before after (long_line name) → IsNotLoaded most name before after status
 
 -- How `verify` ends: an input stopped it, memory ran out, the transcript was not loaded, or the transcript is not sound.
 -- Otherwise the transcript is sound, and the result of its record was printed, or the sink failed at it. No file changes.
 pub data VerifyEnds (names : VerifyNames) (before after : Outside) (status : ℕ) (found : Option Record) : Type 0 where
   VerifyStopped : IsHalted names.inputs before after status → found ≡ None → VerifyEnds names before after status found
-  VerifyStarved : IsStarved before after status found → VerifyEnds names before after status found
+  VerifyOutOfMemory : EndsOutOfMemory before after status found → VerifyEnds names before after status found
   NotLoaded : (inputs : Inputs) → AreInputsOf names.inputs before inputs → IsNotLoaded transcript_limit names.transcript before after status →
       found ≡ None → after.files ≡ before.files → VerifyEnds names before after status found
   NotSound : (inputs : Inputs) (text : List ℕ) (fault : TranscriptFault) → AreInputsOf names.inputs before inputs →
       CanBeNamed inputs → IsTextHeld names before text → verified inputs text ≡ Err fault → status ≡ NOT_SHOWN → found ≡ None →
-      IsSaid before after (fault_line names.transcript fault) → after.files ≡ before.files →
+      IsLinePrinted before after (fault_line names.transcript fault) → after.files ≡ before.files →
       VerifyEnds names before after status found
   Sound : (inputs : Inputs) (text : List ℕ) (rec : Record) → AreInputsOf names.inputs before inputs → CanBeNamed inputs →
       IsTextHeld names before text → verified inputs text ≡ Ok rec → IsRecordIn rec.order inputs rec → found ≡ Some rec →
@@ -199,10 +199,10 @@ pub record IsShown (names : VerifyNames) (before : Outside) (inputs : Inputs) (r
 -- not. It has no record, and prints nothing where the formula was stored.
 pub data ExportEnds (names : ExportNames) (before after : Outside) (status : ℕ) (found : Option Record) : Type 0 where
   Unshown : VerifyEnds names.shown before after status found → found ≡ None → ExportEnds names before after status found
-  ExportStarved : IsStarved before after status found → ExportEnds names before after status found
+  ExportOutOfMemory : EndsOutOfMemory before after status found → ExportEnds names before after status found
   NoStep : (inputs : Inputs) (rec : Record) (fault : StepFault) → IsShown names.shown before inputs rec →
       missing_fault (step_numbered rec.steps names.step) ≡ Some fault → status ≡ NOT_SETTLED → found ≡ None →
-      IsSaid before after (step_line names.step fault) → after.files ≡ before.files → ExportEnds names before after status found
+      IsLinePrinted before after (step_line names.step fault) → after.files ≡ before.files → ExportEnds names before after status found
   FormulaStored : (inputs : Inputs) (rec : Record) → IsShown names.shown before inputs rec →
       missing_fault (step_numbered rec.steps names.step) ≡ None → status ≡ DONE → found ≡ None →
       IsStored (named names.formula (formula_text inputs.book rec names.step)) before after →
@@ -225,11 +225,11 @@ import_texts names inputs rec =
 -- step is settled, the new record's two texts are stored and then its summary printed, up to the first failure.
 pub data ImportEnds (names : ImportNames) (before after : Outside) (status : ℕ) (found : Option Record) : Type 0 where
   NothingShown : VerifyEnds names.shown before after status found → found ≡ None → ImportEnds names before after status found
-  ImportStarved : IsStarved before after status found → ImportEnds names before after status found
+  ImportOutOfMemory : EndsOutOfMemory before after status found → ImportEnds names before after status found
   -- The step doesn't exist or isn't undecided.
   NoOpenStep : (inputs : Inputs) (rec : Record) (fault : StepFault) → IsShown names.shown before inputs rec →
       open_fault (step_numbered rec.steps names.step) ≡ Some fault → status ≡ NOT_SETTLED → found ≡ None →
-      IsSaid before after (step_line names.step fault) → after.files ≡ before.files → ImportEnds names before after status found
+      IsLinePrinted before after (step_line names.step fault) → after.files ≡ before.files → ImportEnds names before after status found
   -- The log was not loaded.
   NoLog : (inputs : Inputs) (rec : Record) → IsShown names.shown before inputs rec →
       open_fault (step_numbered rec.steps names.step) ≡ None → IsNotLoaded file_limit names.proof before after status →
@@ -238,7 +238,7 @@ pub data ImportEnds (names : ImportNames) (before after : Outside) (status : ℕ
   NotSettled : (inputs : Inputs) (rec : Record) (log : List ℕ) (fault : SettleErr) → IsShown names.shown before inputs rec →
       open_fault (step_numbered rec.steps names.step) ≡ None → IsFileHeld names.proof before log →
       settled_text inputs.book rec names.step log ≡ Err fault → status ≡ NOT_SETTLED → found ≡ None →
-      IsSaid before after (unsettled_line names.proof fault) → after.files ≡ before.files → ImportEnds names before after status found
+      IsLinePrinted before after (unsettled_line names.proof fault) → after.files ≡ before.files → ImportEnds names before after status found
   -- The new record can be written and read again if the channels are those of a file.
   Settled : (inputs : Inputs) (rec : Record) (log : List ℕ) (new : Record) → IsShown names.shown before inputs rec →
       open_fault (step_numbered rec.steps names.step) ≡ None → IsFileHeld names.proof before log →
@@ -250,12 +250,12 @@ pub data ImportEnds (names : ImportNames) (before after : Outside) (status : ℕ
 -- How `make` ends: memory ran out before any store, a store was not done, or all three files are stored. In the last case memory
 -- ran out, or the auction was completed and its summary printed, or the sink failed at the summary.
 pub data MakeEnds (names : MakeNames) (before after : Outside) (status : ℕ) (found : Option Record) : Type 0 where
-  MakeStarved : IsStarved before after status found → MakeEnds names before after status found
-  MakeStopped : StopsAtOne (made_texts names) before after status → found ≡ None → MakeEnds names before after status found
-  AuctionStarved : (between : Outside) → AreAllStored (made_texts names) before between →
-      IsStarved between after status found → MakeEnds names before after status found
-  Carried : (between : Outside) (rec : Record) (summary : List ℕ) → AreAllStored (made_texts names) before between →
-      HasRun (made_inputs names.seed names.size) rec summary → found ≡ Some rec →
+  MakeOutOfMemory : EndsOutOfMemory before after status found → MakeEnds names before after status found
+  MakeStopped : StopsAtOne (make_texts names) before after status → found ≡ None → MakeEnds names before after status found
+  AuctionOutOfMemory : (between : Outside) → AreAllStored (make_texts names) before between →
+      EndsOutOfMemory between after status found → MakeEnds names before after status found
+  MakeResult : (between : Outside) (rec : Record) (summary : List ℕ) → AreAllStored (make_texts names) before between →
+      HasRun (make_inputs names.seed names.size) rec summary → found ≡ Some rec →
       IsPrinted summary (done_status (undecided_of rec.steps)) between after status →
       MakeEnds names before after status found
 
@@ -263,12 +263,12 @@ pub data MakeEnds (names : MakeNames) (before after : Outside) (status : ℕ) (f
 -- ended.
 pub data Ends (plan : Plan) (before after : Outside) (status : ℕ) (found below : Option Record) : Type 0 where
   -- Memory may run out before the plan is known.
-  Starved : IsStarved before after status found → after.faults ≡ before.faults → below ≡ None → Ends plan before after status found below
+  EndedOutOfMemory : EndsOutOfMemory before after status found → after.faults ≡ before.faults → below ≡ None → Ends plan before after status found below
   -- Where no command is carried out, no file changes, and neither does the folder's fault count.
-  Usage : (text : List ℕ) → plan ≡ no_command → status ≡ NO_COMMAND → found ≡ None → IsSaid before after text →
+  Usage : (text : List ℕ) → plan ≡ no_command → status ≡ NO_COMMAND → found ≡ None → IsLinePrinted before after text →
       after.files ≡ before.files → after.faults ≡ before.faults → below ≡ None → Ends plan before after status found below
   Repeated : (name : List ℕ) → plan ≡ repeats name → status ≡ REFUSED → found ≡ None →
-      IsSaid before after (twice_line name) → after.files ≡ before.files → after.faults ≡ before.faults → below ≡ None →
+      IsLinePrinted before after (twice_line name) → after.files ≡ before.files → after.faults ≡ before.faults → below ≡ None →
       Ends plan before after status found below
   -- A run is carried out only if no output name is repeated; the same holds for each command that stores files.
   Ran : (names : RunNames) → plan ≡ runs names → repeated_output names ≡ None → RunEnds run_order names before after status found → below ≡ None →

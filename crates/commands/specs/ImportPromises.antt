@@ -13,25 +13,25 @@ use Rattle.auction_core.specs.declared.record.Step.{Step}
 use Rattle.auction_core.specs.Backed.{is_undecided, undecided_of}
 use Rattle.auction_core.specs.State.{test_of}
 use Rattle.transcript_text.specs.Spelling.{transcript_text}
-use Rattle.open_tests.specs.Queries.{step_numbered}
-use Rattle.open_tests.specs.Settled.{decided_row, without_test}
-use Rattle.open_tests.specs.Settling.{settled_text}
-use Rattle.open_tests.specs.declared.settle.SettleErr.{SettleErr}
-use Rattle.commands.specs.declared.fault.TranscriptFault.{TranscriptFault}
+use Rattle.undecided_tests.specs.Queries.{step_numbered}
+use Rattle.undecided_tests.specs.Settled.{decided_row, without_test}
+use Rattle.undecided_tests.specs.Settling.{settled_text}
+use Rattle.undecided_tests.specs.declared.settle.SettleErr.{SettleErr}
+use Rattle.commands.specs.declared.messages.fault.TranscriptFault.{TranscriptFault}
 use Rattle.commands.specs.declared.inputs.Inputs.{Inputs}
-use Rattle.commands.specs.declared.input_file.Stop.TheVariants.{Refused}
-use Rattle.commands.specs.declared.refusal.Refusal.{Refusal}
+use Rattle.commands.specs.declared.inputs.input_file.Stop.TheVariants.{Refused}
+use Rattle.commands.specs.declared.messages.refusal.Refusal.{Refusal}
 use Rattle.commands.specs.declared.settling.StepFault.{StepFault}
-use Rattle.commands.specs.Delivery.{AllOthersStand, AreStored, AreStoredUpTo, NamedText}
+use Rattle.commands.specs.Delivery.{AllOthersUnchanged, AreStored, AreStoredUpTo, NamedText}
 use Rattle.commands.specs.Ends.{AreInputsOf, IsNotLoaded, IsShown, import_texts}
 use Rattle.commands.specs.Inputs.{file_limit, inputs_of, transcript_limit}
-use Rattle.commands.specs.Outside.{Outside, IsSaid}
+use Rattle.commands.specs.Outside.{Outside, IsLinePrinted}
 use Rattle.commands.specs.Records.{IsRecordIn, done_status, outcome, summary_in}
-use Rattle.commands.specs.Says.{unread_line, unwritten_line}
+use Rattle.commands.specs.Messages.{unread_line, unwritten_line}
 use Rattle.commands.specs.Settling.{unsettled_line, open_fault, step_line}
 use Rattle.commands.specs.Statuses.{DONE, LEFT_OPEN, UNREAD, UNWRITTEN, REFUSED, NO_MEMORY, NOT_SHOWN, NOT_SETTLED}
 use Rattle.commands.specs.Verified.{verified}
-use Rattle.commands.specs.VerifyPromises.{AreAllThere, IsGiven, IsOr, VerifyPromises}
+use Rattle.commands.specs.VerifyPromises.{AreAllFilesPresent, IsGiven, IsStatusOr, VerifyPromises}
 use Rattle.command_words.specs.Words.{ImportNames, VerifyNames}
 
 -- The transcript that the files hold is sound.
@@ -44,7 +44,7 @@ pub record IsSoundIn (files : List StoredFile) (names : VerifyNames) : Type 0 wh
 
 -- The file of this name holds these bytes of a log, no more than an input file may have.
 pub record IsLogIn (files : List StoredFile) (name log : List ℕ) : Type 0 where
-  pub told : bytes_of files name ≡ Some log
+  pub modelled : bytes_of files name ≡ Some log
   pub within : length log ≤ file_limit
 
 -- A step that a sound transcript's record shows undecided is settled by the log that a file holds. The new record is of the
@@ -93,7 +93,7 @@ pub record IsImported (files : List StoredFile) (names : ImportNames) (before af
 pub record IsImportedUpTo (files : List StoredFile) (names : ImportNames) (after : Outside) (found : Option Record) : Type 0 where
   pub one : IsSettledStep files names found
   pub now : List StoredFile
-  pub now_told : after.files ≡ Some now
+  pub now_modelled : after.files ≡ Some now
   pub part : AreStoredUpTo files now (new_texts one)
 
 -- A store failed in a folder that isn't steady, and its fault count rose. The line names the file.
@@ -101,7 +101,7 @@ pub record IsUnimported (files : List StoredFile) (names : ImportNames) (before 
   pub risen : HasRisen before.faults after.faults
   pub unsteady : before.steady ≢ true
   pub upto : IsImportedUpTo files names after found
-  pub line : IsSaid before after (unwritten_line upto.part.failed.name)
+  pub line : IsLinePrinted before after (unwritten_line upto.part.failed.name)
 
 -- The step is settled and both texts are stored, but the sink failed at the summary, for which it did not guarantee room. The
 -- sink grew by the summary or by some of it, from the first byte on.
@@ -110,7 +110,7 @@ pub record IsUnsummed (files : List StoredFile) (names : ImportNames) (before af
   pub stored : AreNewStored one after
   pub failed : HasRisen before.cuts after.cuts
   pub unsure : before.sure < length (new_summary one)
-  pub summary : IsSaid before after (new_summary one)
+  pub summary : IsLinePrinted before after (new_summary one)
 
 -- The step of a sound transcript is undecided, and its log was not loaded.
 pub record IsUnlogged (names : ImportNames) (before after : Outside) (status : ℕ) : Type 0 where
@@ -148,20 +148,20 @@ pub record ImportPromises (names : ImportNames) (before after : Outside) (status
   -- ends at status 10, unless memory ran out or an unsteady folder failed to read.
   pub refused : (files : List StoredFile) → before.files ≡ Some files → status ≡ NOT_SETTLED →
       (s : IsSoundIn files names.shown) × (
-      ((fault : StepFault) × (open_fault (step_numbered s.rec.steps names.step) ≡ Some fault) × IsSaid before after (step_line names.step fault))
+      ((fault : StepFault) × (open_fault (step_numbered s.rec.steps names.step) ≡ Some fault) × IsLinePrinted before after (step_line names.step fault))
       ⊎ ((log : List ℕ) × (fault : SettleErr) × IsLogIn files names.proof log × (open_fault (step_numbered s.rec.steps names.step) ≡ None)
-      × (settled_text s.inputs.book s.rec names.step log ≡ Err fault) × IsSaid before after (unsettled_line names.proof fault)))
+      × (settled_text s.inputs.book s.rec names.step log ≡ Err fault) × IsLinePrinted before after (unsettled_line names.proof fault)))
   pub refuses_step : (files : List StoredFile) (s : IsSoundIn files names.shown) (fault : StepFault) →
-      before.files ≡ Some files → open_fault (step_numbered s.rec.steps names.step) ≡ Some fault → IsOr NOT_SETTLED before status
+      before.files ≡ Some files → open_fault (step_numbered s.rec.steps names.step) ≡ Some fault → IsStatusOr NOT_SETTLED before status
   pub refuses_log : (files : List StoredFile) (s : IsSoundIn files names.shown) (log : List ℕ) (fault : SettleErr) →
       before.files ≡ Some files → open_fault (step_numbered s.rec.steps names.step) ≡ None → IsLogIn files names.proof log →
-      settled_text s.inputs.book s.rec names.step log ≡ Err fault → IsOr NOT_SETTLED before status
+      settled_text s.inputs.book s.rec names.step log ≡ Err fault → IsStatusOr NOT_SETTLED before status
   -- Over modelled files, if the log settles an undecided step of a sound transcript, the status is 0, 1 or 4. It is 0 or 1 by the
   -- new record's undecided tests. Otherwise memory ran out, or an unsteady folder failed to read.
   pub complete : (files : List StoredFile) (s : IsSoundIn files names.shown) (log : List ℕ) (new : Record) →
       before.files ≡ Some files → open_fault (step_numbered s.rec.steps names.step) ≡ None → IsLogIn files names.proof log →
       settled_text s.inputs.book s.rec names.step log ≡ Ok new →
-      IsOr (done_status (undecided_of new.steps)) before status ⊎ (status ≡ UNWRITTEN)
+      IsStatusOr (done_status (undecided_of new.steps)) before status ⊎ (status ≡ UNWRITTEN)
   -- At 9 the promises of `verify` hold. At 3 and 5 they hold, or the transcript is sound, its step is undecided, and the log was
   -- not loaded. Over modelled files, a transcript that is not sound ends at 9. An input that is too long or rejected ends at 5. A
   -- transcript or a log that is too long, if the reading comes to it, ends at 5. Otherwise memory ran out, or an unsteady folder
@@ -170,28 +170,28 @@ pub record ImportPromises (names : ImportNames) (before after : Outside) (status
   pub unloaded : IsTrue (is_in (UNREAD ∷ REFUSED ∷ []) status) →
       VerifyPromises names.shown before after status found ⊎ IsUnlogged names before after status
   pub refuses : (files : List StoredFile) (inputs : Inputs) (text : List ℕ) (fault : TranscriptFault) →
-      before.files ≡ Some files → IsGiven files names.shown inputs text → verified inputs text ≡ Err fault → IsOr NOT_SHOWN before status
+      before.files ≡ Some files → IsGiven files names.shown inputs text → verified inputs text ≡ Err fault → IsStatusOr NOT_SHOWN before status
   pub refuses_input : (files : List StoredFile) (why : Refusal) →
-      before.files ≡ Some files → inputs_of files names.shown.inputs ≡ Err (Refused why) → IsOr REFUSED before status
+      before.files ≡ Some files → inputs_of files names.shown.inputs ≡ Err (Refused why) → IsStatusOr REFUSED before status
   pub refuses_long : (files : List StoredFile) (inputs : Inputs) (bytes : List ℕ) →
       before.files ≡ Some files → inputs_of files names.shown.inputs ≡ Ok inputs → bytes_of files names.shown.transcript ≡ Some bytes →
-      transcript_limit < length bytes → IsOr REFUSED before status
+      transcript_limit < length bytes → IsStatusOr REFUSED before status
   pub refuses_long_log : (files : List StoredFile) (s : IsSoundIn files names.shown) (bytes : List ℕ) →
       before.files ≡ Some files → open_fault (step_numbered s.rec.steps names.step) ≡ None → bytes_of files names.proof ≡ Some bytes →
-      file_limit < length bytes → IsOr REFUSED before status
+      file_limit < length bytes → IsStatusOr REFUSED before status
   -- At 3, 5, 9 and 10 no file changes. Over modelled files no file changes at any status except RESULT and NEWTRANSCRIPT.
   pub untouched : IsTrue (is_in (UNREAD ∷ REFUSED ∷ NOT_SHOWN ∷ NOT_SETTLED ∷ []) status) → after.files ≡ before.files
   pub others : (files : List StoredFile) → before.files ≡ Some files →
-      MatchOption after.files ⊥ (λ now. AllOthersStand files now (names.result ∷ names.transcript ∷ []))
+      MatchOption after.files ⊥ (λ now. AllOthersUnchanged files now (names.result ∷ names.transcript ∷ []))
   -- At status 3 the folder's fault count rose. Over a steady folder whose modelled files include all those that `import` reads,
   -- the status is not 3. If the transcript in a steady folder is sound, its step is undecided and only the log is missing, the
   -- status is 3 or 8. At 3 the line names the log.
   pub unread : status ≡ UNREAD → HasRisen before.faults after.faults
   pub surely_read : (files : List StoredFile) →
-      before.files ≡ Some files → before.steady ≡ true → AreAllThere files names.shown → IsSome (bytes_of files names.proof) → status ≢ UNREAD
+      before.files ≡ Some files → before.steady ≡ true → AreAllFilesPresent files names.shown → IsSome (bytes_of files names.proof) → status ≢ UNREAD
   pub missing_log : (files : List StoredFile) (s : IsSoundIn files names.shown) →
       before.files ≡ Some files → before.steady ≡ true → open_fault (step_numbered s.rec.steps names.step) ≡ None →
-      bytes_of files names.proof ≡ None → (status ≡ NO_MEMORY) ⊎ ((status ≡ UNREAD) × IsSaid before after (unread_line names.proof))
+      bytes_of files names.proof ≡ None → (status ≡ NO_MEMORY) ⊎ ((status ≡ UNREAD) × IsLinePrinted before after (unread_line names.proof))
   -- At status 4 the fault count of the folder or of the sink rose. Over modelled files, the step is then settled, and either a
   -- store failed, or both texts are stored and the sink failed at the summary. If memory ran out and there is a record, the texts
   -- are stored up to the one where memory ran out. Status 4 never comes from a steady folder and a sink that guarantees room for

@@ -5,7 +5,7 @@ use Rattle.outside_io.specs.Files.{StoredFile, bytes_of}
 use Rattle.outside_io.specs.declared.folder.LoadErr.{LoadErr}
 use Rattle.outside_io.specs.declared.folder.LoadErr.TheVariants.{Failed, TooLong as LongFile, NoMemory as NoLoad}
 use Rattle.constraint_files.specs.Domains.{domains_of}
-use Rattle.constraint_files.specs.Rows.{PairsView, pairs_of}
+use Rattle.constraint_files.specs.PairTable.{PairsView, pairs_of}
 use Rattle.constraint_files.specs.declared.error.ReadErr.{ReadErr}
 use Rattle.constraint_files.specs.declared.error.ReadErr.TheVariants.{Row as RefusedRow, NoMemory as NoRoom}
 use Rattle.pack_defs.specs.declared.owners.OwnerLine.{OwnerLine}
@@ -19,16 +19,16 @@ use Rattle.owner_line.specs.declared.error.OwnerErr.TheVariants.{Row as RefusedL
 use Rattle.scenario_json.specs.declared.error.ScenarioErr.{ScenarioErr}
 use Rattle.scenario_json.specs.declared.join.JoinErr.{JoinErr}
 use Rattle.scenario_json.specs.declared.join.JoinErr.TheVariants.{MissingDomain as NoDomain, NoMemory as NoSpace}
-use Rattle.scenario_json.specs.Joined.{joined}
+use Rattle.scenario_json.specs.Join.{joined}
 use Rattle.scenario_json.specs.ScenarioOf.{scenario_of}
 use Rattle.command_words.specs.declared.run_words.Input.{Input}
 use Rattle.command_words.specs.declared.run_words.Input.TheVariants.{Domains, Rows, Scenario as ScenarioFile, Owners as OwnersFile}
-use Rattle.commands.specs.declared.refusal.Refusal.TheVariants.{TooLong, Row, Scenario as BadScenario, MissingDomain, Owners as BadOwners}
+use Rattle.commands.specs.declared.messages.refusal.Refusal.TheVariants.{TooLong, Row, Scenario as BadScenario, MissingDomain, Owners as BadOwners}
 use Rattle.commands.specs.declared.inputs.Inputs.{Inputs}
-use Rattle.commands.specs.declared.sources.Sources.{Sources}
-use Rattle.commands.specs.declared.input_file.TheConstants.{FILE_LIMIT}
-use Rattle.commands.specs.declared.input_file.Stop.{Stop}
-use Rattle.commands.specs.declared.input_file.Stop.TheVariants.{CannotRead, Refused, NoMemory}
+use Rattle.commands.specs.declared.inputs.sources.Sources.{Sources}
+use Rattle.commands.specs.declared.inputs.input_file.TheConstants.{FILE_LIMIT}
+use Rattle.commands.specs.declared.inputs.input_file.Stop.{Stop}
+use Rattle.commands.specs.declared.inputs.input_file.Stop.TheVariants.{CannotRead, Refused, NoMemory}
 use Rattle.command_words.specs.Words.{InputNames}
 
 -- The result of a step passed to the next step, or the first error.
@@ -115,8 +115,8 @@ owners_read (Err NoList) = Err NoMemory
 
 -- What the owners' file of this name says of the scenario's stations, from the opening price to the last fall, or what stops its
 -- reading.
-abbrev pub said_in : List StoredFile → List ℕ → Scenario → Result (List OwnerLine) Stop
-said_in files name sc =
+abbrev pub owners_in : List StoredFile → List ℕ → Scenario → Result (List OwnerLine) Stop
+owners_in files name sc =
     and_then (file_of files name OwnersFile) (λ bytes. owners_read (owners_of bytes (length (falls sc)) (facilities sc)))
 
 -- The inputs of the live auction in which the owners say these lines. The stations' values have no effect.
@@ -124,14 +124,14 @@ abbrev pub live_inputs : Inputs → List OwnerLine → Inputs
 live_inputs inputs lines = record inputs { scenario = with_owners inputs.scenario (Some lines) }
 
 -- These inputs, with the lines of the owners' file if one is named, or what stops its reading.
-abbrev pub with_said : List StoredFile → Option (List ℕ) → Inputs → Result Inputs Stop
-with_said files None inputs = Ok inputs
-with_said files (Some name) inputs = and_then (said_in files name inputs.scenario) (λ lines. Ok (live_inputs inputs lines))
+abbrev pub with_owners_file : List StoredFile → Option (List ℕ) → Inputs → Result Inputs Stop
+with_owners_file files None inputs = Ok inputs
+with_owners_file files (Some name) inputs = and_then (owners_in files name inputs.scenario) (λ lines. Ok (live_inputs inputs lines))
 
 -- The inputs that the files of these names hold, or the first error. The reading order is the domains, the rows, the scenario,
 -- the book, and then the owners' file if one is named.
 unfoldable pub inputs_of : List StoredFile → InputNames → Result Inputs Stop
-inputs_of files names = and_then (valued_of files names) (with_said files names.owners)
+inputs_of files names = and_then (valued_of files names) (with_owners_file files names.owners)
 
 -- The call's result, seen through `seen`, is what the files hold. The call may run out of memory, and a folder that isn't steady
 -- may fail to read a file that is there.

@@ -10,61 +10,61 @@ use Rattle.outside_io.specs.Loads.{Writes}
 use Rattle.auction_core.specs.declared.record.Record.{Record}
 use Rattle.auction_core.specs.Backed.{undecided_of}
 use Rattle.commands.specs.declared.inputs.Inputs.{Inputs}
-use Rattle.commands.specs.Delivery.{AllOthersStand, AreStored, AreStoredUpTo}
-use Rattle.commands.specs.Made.{made_inputs, made_texts}
-use Rattle.commands.specs.Outside.{Outside, IsSaid}
+use Rattle.commands.specs.Delivery.{AllOthersUnchanged, AreStored, AreStoredUpTo}
+use Rattle.commands.specs.Make.{make_inputs, make_texts}
+use Rattle.commands.specs.Outside.{Outside, IsLinePrinted}
 use Rattle.commands.specs.Records.{IsRecordOf, done_status, outcome, run_order, summary_of}
-use Rattle.commands.specs.Says.{unwritten_line}
+use Rattle.commands.specs.Messages.{unwritten_line}
 use Rattle.commands.specs.Statuses.{DONE, LEFT_OPEN, UNWRITTEN, NO_MEMORY}
-use Rattle.command_words.specs.Words.{MakeNames, made_names}
+use Rattle.command_words.specs.Words.{MakeNames, make_output_names}
 
 -- The generated files are accepted and nobody starts on air. The record is of their completed auction.
-pub record IsMadeRun (names : MakeNames) (found : Option Record) : Type 0 where
+pub record IsMakeRun (names : MakeNames) (found : Option Record) : Type 0 where
   pub inputs : Inputs
-  pub accepted : made_inputs names.seed names.size ≡ Ok inputs
+  pub accepted : make_inputs names.seed names.size ≡ Ok inputs
   pub nobody : start_set inputs.scenario ≡ []
   pub rec : Record
   pub recorded : found ≡ Some rec
   pub auction : IsRecordOf inputs rec
 
 -- The text of that auction's summary.
-abbrev pub made_summary : {names : MakeNames} {found : Option Record} → IsMadeRun names found → List ℕ
-made_summary made = summary_of made.inputs (undecided_of made.rec.steps)
+abbrev pub make_summary : {names : MakeNames} {found : Option Record} → IsMakeRun names found → List ℕ
+make_summary made = summary_of made.inputs (undecided_of made.rec.steps)
 
 -- The folder's files are modelled: the three names hold the generated files of the seed and the size, and every other file is
 -- unchanged.
-abbrev pub AreAllMade : List StoredFile → MakeNames → Outside → Type 0
-AreAllMade files names after = MatchOption after.files ⊥ (λ new. AreStored files new (made_texts names))
+abbrev pub AreMakeFilesStored : List StoredFile → MakeNames → Outside → Type 0
+AreMakeFilesStored files names after = MatchOption after.files ⊥ (λ new. AreStored files new (make_texts names))
 
 -- The summary is the clock rule's with every test decided: it depends on the seed and the size alone. Each bought station is paid
 -- its threshold price, the greatest admissible value with which it would have been bought.
-pub record IsMadeDecided (names : MakeNames) (before after : Outside) : Type 0 where
+pub record IsMakeDecided (names : MakeNames) (before after : Outside) : Type 0 where
   pub inputs : Inputs
-  pub accepted : made_inputs names.seed names.size ≡ Ok inputs
+  pub accepted : make_inputs names.seed names.size ≡ Ok inputs
   pub summary : Writes before.held after.held (summary_of inputs []) (Ok tt)
   pub paid : (f : FrozenAt) → Contains (outcome run_order inputs []).frozen f →
       IsThresholdPrice inputs.scenario inputs.book run_order f.station f.price
 
 -- The generated files are stored only up to one name. The files before it are stored, that name may hold anything or be gone, and
 -- all other files are unchanged.
-pub record IsMadeUpTo (files : List StoredFile) (names : MakeNames) (after : Outside) : Type 0 where
+pub record AreMakeFilesStoredUpTo (files : List StoredFile) (names : MakeNames) (after : Outside) : Type 0 where
   pub new : List StoredFile
-  pub now_told : after.files ≡ Some new
-  pub part : AreStoredUpTo files new (made_texts names)
+  pub now_modelled : after.files ≡ Some new
+  pub part : AreStoredUpTo files new (make_texts names)
 
 -- A store failed in a folder that isn't steady, and its fault count rose. There is no record.
-pub record IsUnmade (before after : Outside) (found : Option Record) : Type 0 where
+pub record IsMakeUnstored (before after : Outside) (found : Option Record) : Type 0 where
   pub none : found ≡ None
   pub risen : HasRisen before.faults after.faults
   pub unsteady : before.steady ≢ true
 
 -- The auction was completed, but the sink failed at the summary, for which it did not guarantee room. The sink grew by the
 -- summary or by some of it, from the first byte on.
-pub record IsUnsaid (names : MakeNames) (before after : Outside) (found : Option Record) : Type 0 where
-  pub made : IsMadeRun names found
+pub record IsSummaryUnwritten (names : MakeNames) (before after : Outside) (found : Option Record) : Type 0 where
+  pub made : IsMakeRun names found
   pub failed : HasRisen before.cuts after.cuts
-  pub unsure : before.sure < length (made_summary made)
-  pub summary : IsSaid before after (made_summary made)
+  pub unsure : before.sure < length (make_summary made)
+  pub summary : IsLinePrinted before after (make_summary made)
 
 -- What `make` promises, by its status and its record.
 pub record MakePromises (names : MakeNames) (before after : Outside) (status : ℕ) (found : Option Record) : Type 0 where
@@ -72,29 +72,29 @@ pub record MakePromises (names : MakeNames) (before after : Outside) (status : �
   pub statuses : IsTrue (is_in (DONE ∷ LEFT_OPEN ∷ UNWRITTEN ∷ NO_MEMORY ∷ []) status)
   -- At status 0 and 1 the three names hold the generated files and every other file is unchanged, over modelled files. Over any
   -- files, the record is of the completed auction of the generated files, and the sink grew by its summary. The status is 0
-  -- exactly if no test is undecided, and `IsMadeDecided` then holds.
+  -- exactly if no test is undecided, and `IsMakeDecided` then holds.
   pub stored : (files : List StoredFile) → before.files ≡ Some files → IsTrue (is_in (DONE ∷ LEFT_OPEN ∷ []) status) →
-      AreAllMade files names after
+      AreMakeFilesStored files names after
   pub done : IsTrue (is_in (DONE ∷ LEFT_OPEN ∷ []) status) →
-      (made : IsMadeRun names found) × (status ≡ done_status (undecided_of made.rec.steps))
-      × Writes before.held after.held (made_summary made) (Ok tt)
-  pub decided : status ≡ DONE → IsMadeDecided names before after
+      (made : IsMakeRun names found) × (status ≡ done_status (undecided_of made.rec.steps))
+      × Writes before.held after.held (make_summary made) (Ok tt)
+  pub decided : status ≡ DONE → IsMakeDecided names before after
   -- At status 4 either a store failed in a folder that isn't steady, or the auction was completed and the sink failed at the
   -- summary. Over modelled files, a failed store leaves the files stored only up to one name, and the line names that file. If
   -- the sink failed at the summary, all three files are stored. The status is not 4 with a steady folder and a sink that
   -- guarantees room for the summary, whichever tests are undecided.
-  pub unwritten : status ≡ UNWRITTEN → IsUnmade before after found ⊎ IsUnsaid names before after found
+  pub unwritten : status ≡ UNWRITTEN → IsMakeUnstored before after found ⊎ IsSummaryUnwritten names before after found
   pub unstored : (files : List StoredFile) → before.files ≡ Some files → status ≡ UNWRITTEN → found ≡ None →
-      (upto : IsMadeUpTo files names after) × IsSaid before after (unwritten_line upto.part.failed.name)
-  pub unsaid : (files : List StoredFile) → before.files ≡ Some files → status ≡ UNWRITTEN → IsSome found → AreAllMade files names after
-  pub surely : before.steady ≡ true →
-      ((inputs : Inputs) (undecided : List ClockTest) → made_inputs names.seed names.size ≡ Ok inputs → length (summary_of inputs undecided) ≤ before.sure) →
+      (upto : AreMakeFilesStoredUpTo files names after) × IsLinePrinted before after (unwritten_line upto.part.failed.name)
+  pub summary_unwritten : (files : List StoredFile) → before.files ≡ Some files → status ≡ UNWRITTEN → IsSome found → AreMakeFilesStored files names after
+  pub steady_never_fails : before.steady ≡ true →
+      ((inputs : Inputs) (undecided : List ClockTest) → make_inputs names.seed names.size ≡ Ok inputs → length (summary_of inputs undecided) ≤ before.sure) →
       status ≢ UNWRITTEN
   -- At status 8 there is no record. Over modelled files nothing was stored, or the files are stored up to one name, or all three
   -- are stored.
   pub unrecorded : status ≡ NO_MEMORY → found ≡ None
-  pub starved : (files : List StoredFile) → before.files ≡ Some files → status ≡ NO_MEMORY →
-      (after.files ≡ before.files) ⊎ (IsMadeUpTo files names after ⊎ AreAllMade files names after)
+  pub out_of_memory : (files : List StoredFile) → before.files ≡ Some files → status ≡ NO_MEMORY →
+      (after.files ≡ before.files) ⊎ (AreMakeFilesStoredUpTo files names after ⊎ AreMakeFilesStored files names after)
   -- Over modelled files, no file changes except the three.
   pub others : (files : List StoredFile) → before.files ≡ Some files →
-      MatchOption after.files ⊥ (λ new. AllOthersStand files new (made_names names))
+      MatchOption after.files ⊥ (λ new. AllOthersUnchanged files new (make_output_names names))

@@ -1,8 +1,8 @@
 -- What the program touches, before and after: the folder and the sink.
 use Rattle.std.specs.Prelude.{ℕ, Bool, List, Option}
 use Rattle.outside_io.specs.Files.{StoredFile}
-use Rattle.outside_io.specs.Told.{FolderTold, SinkTold}
-use Rattle.commands.specs.Says.{Says}
+use Rattle.outside_io.specs.Models.{FolderModel, SinkModel}
+use Rattle.commands.specs.Messages.{PrintsText}
 
 -- The folder: its files if the model includes them (they are modelled), its fault count, and whether it is steady. A steady
 -- folder fails only for a name that isn't there. The sink: its bytes if the model includes them, its fault count `cuts`, and how
@@ -16,7 +16,7 @@ pub record Outside : Type 0 where
   pub sure : ℕ
 
 -- The outside that consists of this folder and this sink.
-abbrev pub outside : FolderTold → SinkTold → Outside
+abbrev pub outside : FolderModel → SinkModel → Outside
 outside folder sink = record {
   files = folder.files;
   faults = folder.faults;
@@ -26,10 +26,11 @@ outside folder sink = record {
   sure = sink.sure;
 }
 
--- Between these two moments the sink took the text, or some of it from the first byte on if its fault count rose.
-abbrev pub IsSaid : Outside → Outside → List ℕ → Type 0
-IsSaid before after text = Says before.held after.held before.cuts after.cuts text
+-- Between these two moments the sink took the text, or only its first bytes, maybe none, if its fault count rose. Nothing is said
+-- of a sink that is not modelled.
+abbrev pub IsLinePrinted : Outside → Outside → List ℕ → Type 0
+IsLinePrinted before after text = PrintsText before.held after.held before.cuts after.cuts text
 
 -- This sink took the text, or some of it from the first byte on if its fault count rose.
-abbrev pub IsSaidTo : SinkTold → SinkTold → List ℕ → Type 0
-IsSaidTo before after text = Says before.held after.held before.faults after.faults text
+abbrev pub IsLinePrintedTo : SinkModel → SinkModel → List ℕ → Type 0
+IsLinePrintedTo before after text = PrintsText before.held after.held before.faults after.faults text

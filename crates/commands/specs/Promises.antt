@@ -8,11 +8,11 @@ use Rattle.pack_defs.specs.Packing.{IsPacking}
 use Rattle.outside_io.specs.Faults.{HasRisen}
 use Rattle.outside_io.specs.Files.{StoredFile, bytes_of}
 use Rattle.commands.specs.declared.inputs.Inputs.{Inputs}
-use Rattle.commands.specs.declared.input_file.Stop.TheVariants.{CannotRead, Refused}
+use Rattle.commands.specs.declared.inputs.input_file.Stop.TheVariants.{CannotRead, Refused}
 use Rattle.auction_core.specs.declared.record.Ending.TheVariants.{Done}
 use Rattle.auction_core.specs.declared.record.Record.{Record}
 use Rattle.command_words.specs.declared.run_words.Input.{Input}
-use Rattle.commands.specs.declared.refusal.Refusal.{Refusal}
+use Rattle.commands.specs.declared.messages.refusal.Refusal.{Refusal}
 use Rattle.auction_core.specs.Backed.{IsBacked, undecided_of}
 use Rattle.commands.specs.CheckPromises.{CheckPromises}
 use Rattle.commands.specs.ExportPromises.{ExportPromises}
@@ -20,16 +20,16 @@ use Rattle.commands.specs.ImportPromises.{ImportPromises}
 use Rattle.commands.specs.Inputs.{inputs_of}
 use Rattle.commands.specs.LivePromises.{IsLive}
 use Rattle.commands.specs.MakePromises.{MakePromises}
-use Rattle.commands.specs.Outside.{Outside, IsSaid}
+use Rattle.commands.specs.Outside.{Outside, IsLinePrinted}
 use Rattle.commands.specs.Plan.{Plan, no_command, repeats, runs, checks, verifies, resumes, seeks, batches, makes, exports, imports}
 use Rattle.commands.specs.Records.{outcome, run_order}
-use Rattle.commands.specs.Refusals.{refusal_line}
+use Rattle.commands.specs.Refusal.{refusal_line}
 use Rattle.command_words.specs.Words.{name_of}
 use Rattle.commands.specs.RunPromises.{RunPromises}
-use Rattle.commands.specs.Says.{memory_line, twice_line, unread_line}
+use Rattle.commands.specs.Messages.{memory_line, twice_line, unread_line}
 use Rattle.commands.specs.SeekPromises.{SeekPromises}
 use Rattle.commands.specs.Statuses.{DONE, LEFT_OPEN, NO_COMMAND, UNREAD, UNWRITTEN, REFUSED, START_UNFIT, START_OPEN, NO_MEMORY, NOT_SHOWN, NOT_SETTLED}
-use Rattle.commands.specs.VerifyPromises.{IsOr, VerifyPromises}
+use Rattle.commands.specs.VerifyPromises.{IsStatusOr, VerifyPromises}
 use Rattle.command_words.specs.Words.{ExportNames, ImportNames, InputNames, MakeNames, RunNames, SeekNames, VerifyNames, seek_inputs}
 
 -- The input files of a plan that reads its inputs and no other file: `run`, `check` or `seek`. None for any other plan.
@@ -131,7 +131,7 @@ asks_step (exports names) = true
 asks_step (imports names) = true
 
 -- The domains, the rows and the scenario are in the folder, and so is the owners' file if one is named.
-pub record AreThere (files : List StoredFile) (names : InputNames) : Type 0 where
+pub record AreInputsPresent (files : List StoredFile) (names : InputNames) : Type 0 where
   pub domains : IsSome (bytes_of files names.domains)
   pub rows : IsSome (bytes_of files names.rows)
   pub scenario : IsSome (bytes_of files names.scenario)
@@ -155,7 +155,7 @@ pub record Promises (plan : Plan) (before after : Outside) (status : ℕ) (found
   -- If an output name is repeated, the status is 5 and the line names it, or the status is 8. For this plan and for words that
   -- are no command, the folder's fault count does not change.
   pub twice : (name : List ℕ) → plan ≡ repeats name →
-      ((status ≡ REFUSED) × IsSaid before after (twice_line name)) ⊎ (status ≡ NO_MEMORY)
+      ((status ≡ REFUSED) × IsLinePrinted before after (twice_line name)) ⊎ (status ≡ NO_MEMORY)
   pub asked_nothing : asks_nothing plan ≡ true → after.faults ≡ before.faults
   -- Each command keeps its own promises. Only `seek` has a second record.
   pub run : (names : RunNames) → plan ≡ runs names → RunPromises run_order names before after status found
@@ -174,22 +174,22 @@ pub record Promises (plan : Plan) (before after : Outside) (status : ℕ) (found
   -- unsteady folder failed to read.
   pub refused : (files : List StoredFile) (names : InputNames) →
       before.files ≡ Some files → inputs_read plan ≡ Some names → status ≡ REFUSED →
-      (why : Refusal) × (inputs_of files names ≡ Err (Refused why)) × IsSaid before after (refusal_line names why)
+      (why : Refusal) × (inputs_of files names ≡ Err (Refused why)) × IsLinePrinted before after (refusal_line names why)
   pub refuses : (files : List StoredFile) (names : InputNames) (why : Refusal) →
       before.files ≡ Some files → inputs_read plan ≡ Some names → inputs_of files names ≡ Err (Refused why) →
-      IsOr REFUSED before status
+      IsStatusOr REFUSED before status
   -- At status 3 the folder's fault count rose. For `run`, `check` and `seek` the line then names an input. Over a steady folder
   -- whose modelled files include all their inputs, the status is not 3. If a steady folder's reading first stops at a missing
   -- file, the line names that file at status 3, or the status is 8.
   pub unread : status ≡ UNREAD → HasRisen before.faults after.faults
   pub unread_says : (names : InputNames) → inputs_read plan ≡ Some names → status ≡ UNREAD →
-      (input : Input) × IsSaid before after (unread_line (name_of names input))
+      (input : Input) × IsLinePrinted before after (unread_line (name_of names input))
   pub surely_read : (files : List StoredFile) (names : InputNames) →
-      before.files ≡ Some files → inputs_read plan ≡ Some names → before.steady ≡ true → AreThere files names → status ≢ UNREAD
+      before.files ≡ Some files → inputs_read plan ≡ Some names → before.steady ≡ true → AreInputsPresent files names → status ≢ UNREAD
   pub missing : (files : List StoredFile) (names : InputNames) (input : Input) →
       before.files ≡ Some files → inputs_read plan ≡ Some names → before.steady ≡ true →
       inputs_of files names ≡ Err (CannotRead input) →
-      (status ≡ NO_MEMORY) ⊎ ((status ≡ UNREAD) × IsSaid before after (unread_line (name_of names input)))
+      (status ≡ NO_MEMORY) ⊎ ((status ≡ UNREAD) × IsLinePrinted before after (unread_line (name_of names input)))
   -- At status 4 the fault count of the folder or of the sink rose.
   pub unwritten : status ≡ UNWRITTEN → HasRisen before.faults after.faults ⊎ HasRisen before.cuts after.cuts
   -- Without a record no file changes, except under `make` and `export`. At status 6 and 7 no file changes.
@@ -197,7 +197,7 @@ pub record Promises (plan : Plan) (before after : Outside) (status : ℕ) (found
   pub unfit_untouched : IsTrue (is_in (START_UNFIT ∷ START_OPEN ∷ []) status) → after.files ≡ before.files
   -- For `run` and `verify` over modelled files: if no owners' file is named, the record has no owners. If one is named, a record
   -- of `verify` is of the live auction.
-  pub unsaid : (files : List StoredFile) (names : InputNames) →
+  pub without_owners : (files : List StoredFile) (names : InputNames) →
       before.files ≡ Some files → carries_out plan ≡ Some names → names.owners ≡ None → MatchOption found ⊤ (λ rec. rec.scenario.owners ≡ None)
   pub verified_live : (files : List StoredFile) (names : VerifyNames) (owners : List ℕ) →
       before.files ≡ Some files → plan ≡ verifies names → names.inputs.owners ≡ Some owners → IsSome found → IsLive files names.inputs owners found
@@ -205,4 +205,4 @@ pub record Promises (plan : Plan) (before after : Outside) (status : ℕ) (found
   pub verify_only : status ≡ NOT_SHOWN → IsTrue (verifies_first plan)
   pub proofs_only : status ≡ NOT_SETTLED → IsTrue (asks_step plan)
   -- At status 8 the line says that memory ran out.
-  pub memory : status ≡ NO_MEMORY → IsSaid before after memory_line
+  pub memory : status ≡ NO_MEMORY → IsLinePrinted before after memory_line

@@ -14,16 +14,16 @@ use Rattle.auction_core.specs.declared.record.Ending.TheVariants.{Done, StartRef
 use Rattle.auction_core.specs.declared.record.Record.{Record}
 use Rattle.auction_core.specs.Backed.{undecided_of}
 use Rattle.transcript_text.specs.Spelling.{transcript_text}
-use Rattle.commands.specs.Delivery.{AllOthersStand, AreStored, AreStoredUpTo}
+use Rattle.commands.specs.Delivery.{AllOthersUnchanged, AreStored, AreStoredUpTo}
 use Rattle.commands.specs.Ends.{AreInputsOf, auction_texts}
 use Rattle.commands.specs.Inputs.{inputs_of}
 use Rattle.commands.specs.LivePromises.{IsLive}
-use Rattle.commands.specs.Outside.{Outside, IsSaid}
+use Rattle.commands.specs.Outside.{Outside, IsLinePrinted}
 use Rattle.commands.specs.Records.{IsEndedRecordIn, IsOpenRecordIn, IsRecordIn, StartFits, StartUnfit, done_status, outcome, result_of, summary_in}
-use Rattle.commands.specs.Says.{open_line, unfit_line, unwritten_line}
+use Rattle.commands.specs.Messages.{open_line, unfit_line, unwritten_line}
 use Rattle.commands.specs.Statuses.{DONE, LEFT_OPEN, UNWRITTEN, START_UNFIT, START_OPEN, NO_MEMORY}
 use Rattle.commands.specs.Verified.{verified}
-use Rattle.commands.specs.VerifyPromises.{IsOr}
+use Rattle.commands.specs.VerifyPromises.{IsStatusOr}
 use Rattle.command_words.specs.Words.{RunNames, output_names}
 
 -- The auction of these inputs was completed, and RESULT, CHANNELS and TRANSCRIPT hold the texts of its record. Verifying the
@@ -62,7 +62,7 @@ pub record IsPartStored (order : Order) (files : List StoredFile) (names : RunNa
   pub recorded : found ≡ Some rec
   pub auction : IsRecordIn order inputs rec
   pub new : List StoredFile
-  pub now_told : after.files ≡ Some new
+  pub now_modelled : after.files ≡ Some new
   pub part : AreStoredUpTo files new (auction_texts order names inputs rec)
 
 -- A store failed in a folder that isn't steady, and its fault count rose. The texts are stored only up to the name that the line
@@ -71,7 +71,7 @@ pub record IsUnstored (order : Order) (files : List StoredFile) (names : RunName
   pub risen : HasRisen before.faults after.faults
   pub unsteady : before.steady ≢ true
   pub upto : IsPartStored order files names after found
-  pub line : IsSaid before after (unwritten_line upto.part.failed.name)
+  pub line : IsLinePrinted before after (unwritten_line upto.part.failed.name)
 
 -- The auction of these inputs was completed and its three texts are stored, but the sink failed at the summary. The sink did not
 -- guarantee room for the whole summary; it grew by the summary or by some of it, from the first byte on. Verifying the transcript
@@ -85,7 +85,7 @@ pub record IsCutShort (order : Order) (files : List StoredFile) (names : RunName
   pub stored : MatchOption after.files ⊥ (λ new. AreStored files new (auction_texts order names inputs rec))
   pub failed : HasRisen before.cuts after.cuts
   pub unsure : before.sure < length (summary_in order inputs (undecided_of rec.steps))
-  pub summary : IsSaid before after (summary_in order inputs (undecided_of rec.steps))
+  pub summary : IsLinePrinted before after (summary_in order inputs (undecided_of rec.steps))
   pub verifiable : verified inputs (transcript_text inputs.scenario inputs.book rec) ≡ Ok rec
 
 -- A store failed, or the sink failed at the summary.
@@ -109,18 +109,18 @@ pub record IsStartLeftOpen (order : Order) (files : List StoredFile) (names : Ru
   pub rec : Record
   pub recorded : found ≡ Some rec
   pub auction : IsOpenRecordIn order inputs rec
-  pub line : IsSaid before after open_line
+  pub line : IsLinePrinted before after open_line
 
 -- What a run promises where the folder's files are modelled.
-pub record ToldRun (order : Order) (files : List StoredFile) (names : RunNames) (before after : Outside) (status : ℕ) (found : Option Record) : Type 0 where
+pub record ModelledRun (order : Order) (files : List StoredFile) (names : RunNames) (before after : Outside) (status : ℕ) (found : Option Record) : Type 0 where
   -- At status 0 and 1 the auction of the inputs that the files hold was completed. At 0 every test was decided.
   pub done : IsTrue (is_in (DONE ∷ LEFT_OPEN ∷ []) status) → IsRunDone order files names before after status found
   pub decided : status ≡ DONE → IsDecided order files names before after
   -- At status 6 the inputs are accepted, their start set doesn't fit, and the line says so. If the start set of accepted inputs
   -- doesn't fit, the status is 6 or 7, unless memory ran out or an unsteady folder failed. At 7 the record has a receipt from
   -- every worker that its budget was spent on the start set. If nobody starts on air, the status is neither 6 nor 7.
-  pub unfit : status ≡ START_UNFIT → (inputs : Inputs) × (inputs_of files names.inputs ≡ Ok inputs) × StartUnfit inputs × IsSaid before after unfit_line
-  pub unfits : (inputs : Inputs) → inputs_of files names.inputs ≡ Ok inputs → StartUnfit inputs → IsOr START_UNFIT before status ⊎ (status ≡ START_OPEN)
+  pub unfit : status ≡ START_UNFIT → (inputs : Inputs) × (inputs_of files names.inputs ≡ Ok inputs) × StartUnfit inputs × IsLinePrinted before after unfit_line
+  pub unfits : (inputs : Inputs) → inputs_of files names.inputs ≡ Ok inputs → StartUnfit inputs → IsStatusOr START_UNFIT before status ⊎ (status ≡ START_OPEN)
   pub left_open : status ≡ START_OPEN → IsStartLeftOpen order files names before after found
   pub nobody : (inputs : Inputs) → inputs_of files names.inputs ≡ Ok inputs → start_set inputs.scenario ≡ [] → IsFalse (is_in (START_UNFIT ∷ START_OPEN ∷ []) status)
   -- At status 4 a store failed, or the three texts are stored and the sink failed at the summary. If memory ran out and there is
@@ -132,19 +132,19 @@ pub record ToldRun (order : Order) (files : List StoredFile) (names : RunNames) 
       ((inputs : Inputs) (undecided : List ClockTest) → inputs_of files names.inputs ≡ Ok inputs → length (summary_in order inputs undecided) ≤ before.sure) →
       status ≢ UNWRITTEN
   -- No file changes except RESULT, CHANNELS and TRANSCRIPT.
-  pub others : MatchOption after.files ⊥ (λ new. AllOthersStand files new (output_names names))
+  pub others : MatchOption after.files ⊥ (λ new. AllOthersUnchanged files new (output_names names))
   -- If the start set of accepted inputs fits, the status is 0, 1, 4 or 7, unless memory ran out or an unsteady folder failed.
   pub complete : (inputs : Inputs) → inputs_of files names.inputs ≡ Ok inputs → StartFits inputs →
-      IsOr DONE before status ⊎ IsTrue (is_in (LEFT_OPEN ∷ UNWRITTEN ∷ START_OPEN ∷ []) status)
+      IsStatusOr DONE before status ⊎ IsTrue (is_in (LEFT_OPEN ∷ UNWRITTEN ∷ START_OPEN ∷ []) status)
   -- If an owners' file is named, any record also keeps the promises of a live auction.
   pub live : (owners : List ℕ) → names.inputs.owners ≡ Some owners → IsSome found → IsLive files names.inputs owners found
 
 -- What a run in this test order promises, by its status and its record.
 pub record RunPromises (order : Order) (names : RunNames) (before after : Outside) (status : ℕ) (found : Option Record) : Type 0 where
-  -- Where the folder's files are modelled, the run keeps the promises of `ToldRun`.
-  pub told : (files : List StoredFile) → before.files ≡ Some files → ToldRun order files names before after status found
-  -- This clause also holds where the folder's files are not modelled. At status 0 and 1 the record is of a completed auction, and
-  -- the sink grew by its summary. The status is 0 exactly if no test is undecided.
+  -- Where the folder's files are modelled, the run keeps the promises of `ModelledRun`.
+  pub modelled : (files : List StoredFile) → before.files ≡ Some files → ModelledRun order files names before after status found
+  -- This clause also holds where the folder's files are not modelled. At status 0 and 1 the record is of a completed auction of
+  -- some inputs, which `recorded` relates to the files, and the sink grew by its summary. The status is 0 exactly if no test is undecided.
   pub summed : IsTrue (is_in (DONE ∷ LEFT_OPEN ∷ []) status) →
       (inputs : Inputs) × (rec : Record) × (found ≡ Some rec) × IsRecordIn order inputs rec
       × (status ≡ done_status (undecided_of rec.steps))

@@ -4,7 +4,7 @@ use Rattle.std.specs.List.{list_any}
 use Rattle.outside_io.specs.Files.{StoredFile}
 use Rattle.pack_defs.specs.declared.limits.TheConstants.{GREATEST_CHANNEL, LEAST_CHANNEL}
 use Rattle.pack_defs.specs.Scenario.{IsWithinLimits, facilities}
-use Rattle.scenario_json.specs.Joined.{first_missing}
+use Rattle.scenario_json.specs.Join.{first_missing}
 use Rattle.scenario_json.specs.StartOnly.{start_only}
 use Rattle.auction_core.specs.declared.record.Ending.{Ending}
 use Rattle.auction_core.specs.declared.record.Ending.TheVariants.{Done, StartRefuted, StartUndecided}
@@ -12,14 +12,14 @@ use Rattle.auction_core.specs.declared.record.Record.{Record}
 use Rattle.result_text.specs.ResultText.{count_line}
 use Rattle.target_seek.specs.declared.top_test.TopAnswer.{TopAnswer}
 use Rattle.target_seek.specs.declared.top_test.TopAnswer.TheVariants.{Fits, Unfit, Open}
-use Rattle.target_seek.specs.Tops.{AskedTop, SeekBase, book_at, fits_at}
+use Rattle.target_seek.specs.TopChannels.{AskedTop, SeekBase, book_at, fits_at}
 use Rattle.commands.specs.declared.inputs.Inputs.{Inputs}
-use Rattle.commands.specs.declared.input_file.Stop.{Stop}
-use Rattle.commands.specs.declared.sources.Sources.{Sources}
-use Rattle.commands.specs.declared.tops.TopRecord.{TopRecord}
-use Rattle.commands.specs.declared.tops.LeastTop.{LeastTop}
-use Rattle.commands.specs.declared.tops.FoundTop.{FoundTop}
-use Rattle.commands.specs.declared.tops.FoundTop.TheVariants.{NoneFits, LastOpen, Found}
+use Rattle.commands.specs.declared.inputs.input_file.Stop.{Stop}
+use Rattle.commands.specs.declared.inputs.sources.Sources.{Sources}
+use Rattle.commands.specs.declared.top_channel_runs.TopRecord.{TopRecord}
+use Rattle.commands.specs.declared.top_channel_runs.LeastTop.{LeastTop}
+use Rattle.commands.specs.declared.top_channel_runs.FoundTop.{FoundTop}
+use Rattle.commands.specs.declared.top_channel_runs.FoundTop.TheVariants.{NoneFits, LastOpen, Found}
 use Rattle.commands.specs.Inputs.{and_then, inputs_by, sources_of}
 use Rattle.commands.specs.Records.{IsOpenRecordOf, IsRecordBy, IsRecordOf, IsRefutedRecordOf}
 use Rattle.commands.specs.Statuses.{DONE, LEFT_OPEN}
@@ -96,14 +96,14 @@ same_answer Open Unfit = false
 same_answer Open Open = true
 
 -- The record is of this top channel and has this answer.
-abbrev pub is_told : ℕ → TopAnswer → TopRecord → Bool
-is_told top answer x = (x.top == top) && same_answer (answer_of x.rec.ending) answer
+abbrev pub has_top_answer : ℕ → TopAnswer → TopRecord → Bool
+has_top_answer top answer x = (x.top == top) && same_answer (answer_of x.rec.ending) answer
 
 -- If a record was picked, it is of this top channel and has this answer. If none was picked, the records left have one exactly if
 -- all of them have one.
 abbrev pub Picks : SeekBase → List TopRecord → List TopRecord → ℕ → TopAnswer → Option Record → Type 0
 Picks base all left top answer picked =
-    MatchOption picked (list_any (is_told top answer) left ≡ list_any (is_told top answer) all)
+    MatchOption picked (list_any (has_top_answer top answer) left ≡ list_any (has_top_answer top answer) all)
     (λ rec. IsRecordBy (inputs_at base top) rec (ending_by answer))
 
 -- ---- What is found

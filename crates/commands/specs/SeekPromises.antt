@@ -11,17 +11,17 @@ use Rattle.auction_core.specs.declared.record.Record.{Record}
 use Rattle.auction_core.specs.declared.record.Shown.{Shown}
 use Rattle.auction_core.specs.declared.record.Shown.TheVariants.{Empty, Fits, Same, NoChannel, Refuted, Outside as ByProof, Undecided}
 use Rattle.result_text.specs.ChannelsText.{channels_text}
-use Rattle.target_seek.specs.Tops.{book_at, fits_at}
-use Rattle.commands.specs.declared.sources.Sources.{Sources}
-use Rattle.commands.specs.declared.tops.LeastTop.{LeastTop}
-use Rattle.commands.specs.Delivery.{AllOthersStand, AreStored, NamedText, named}
+use Rattle.target_seek.specs.TopChannels.{book_at, fits_at}
+use Rattle.commands.specs.declared.inputs.sources.Sources.{Sources}
+use Rattle.commands.specs.declared.top_channel_runs.LeastTop.{LeastTop}
+use Rattle.commands.specs.Delivery.{AllOthersUnchanged, AreStored, NamedText, named}
 use Rattle.commands.specs.Ends.{AreSought}
-use Rattle.commands.specs.Outside.{Outside, IsSaid}
+use Rattle.commands.specs.Outside.{Outside, IsLinePrinted}
 use Rattle.commands.specs.Records.{IsOpenRecordOf, IsRefutedRecordOf}
-use Rattle.commands.specs.Says.{open_line, unfit_line, unwritten_line}
+use Rattle.commands.specs.Messages.{open_line, unfit_line, unwritten_line}
 use Rattle.commands.specs.Seek.{IsLeastTop, IsSeekable, base_of, inputs_at, seekable_of, top_status, top_text}
 use Rattle.commands.specs.Statuses.{DONE, LEFT_OPEN, UNREAD, UNWRITTEN, REFUSED, START_UNFIT, START_OPEN, NO_MEMORY}
-use Rattle.commands.specs.VerifyPromises.{IsOr}
+use Rattle.commands.specs.VerifyPromises.{IsStatusOr}
 use Rattle.command_words.specs.Words.{SeekNames, seek_inputs}
 
 -- What `seek` stores: the text of the channels up to the top that was found.
@@ -63,7 +63,7 @@ pub record IsNoTop (names : SeekNames) (before after : Outside) (found : Option 
   pub recorded : found ≡ Some rec
   pub auction : IsRefutedRecordOf (inputs_at (base_of sources) sources.scenario.top) rec
   pub unfit : IsFalse (fits_at (base_of sources) sources.scenario.top)
-  pub line : IsSaid before after unfit_line
+  pub line : IsLinePrinted before after unfit_line
 
 -- The start test up to the scenario's own top channel is undecided. The record has a receipt from every worker, and the line says
 -- so.
@@ -74,7 +74,7 @@ pub record IsTopOpen (names : SeekNames) (before after : Outside) (found : Optio
   pub rec : Record
   pub recorded : found ≡ Some rec
   pub auction : IsOpenRecordOf (inputs_at (base_of sources) sources.scenario.top) rec
-  pub line : IsSaid before after open_line
+  pub line : IsLinePrinted before after open_line
 
 -- What `seek` promises, by its status and its two records.
 pub record SeekPromises (names : SeekNames) (before after : Outside) (status : ℕ) (found below : Option Record) : Type 0 where
@@ -92,7 +92,7 @@ pub record SeekPromises (names : SeekNames) (before after : Outside) (status : �
       (of : IsTopOf names before found below) × ((less : ℕ) → LEAST_CHANNEL ≤ less → less < of.x.top → IsFalse (fits_at (base_of of.sources) less))
       × MatchOption below (of.x.top ≡ LEAST_CHANNEL) (λ rec. (LEAST_CHANNEL < of.x.top) × IsTrue (shows_unfit rec.start))
       × Writes before.held after.held (top_text of.x.top false) (Ok tt)
-  pub starved : status ≡ NO_MEMORY → ((found ≡ None) × (below ≡ None)) ⊎ IsTopOf names before found below
+  pub out_of_memory : status ≡ NO_MEMORY → ((found ≡ None) × (below ≡ None)) ⊎ IsTopOf names before found below
   -- Over modelled files, at status 0 and 1 CHANNELS holds the text of the channels, and every other file is unchanged.
   pub stored : (files : List StoredFile) → before.files ≡ Some files → IsTrue (is_in (DONE ∷ LEFT_OPEN ∷ []) status) →
       (of : IsTopOf names before found below) × MatchOption after.files ⊥ (λ new. AreStored files new (seek_texts names of.x.rec))
@@ -102,26 +102,26 @@ pub record SeekPromises (names : SeekNames) (before after : Outside) (status : �
   pub unfit : status ≡ START_UNFIT → IsNoTop names before after found
   pub left_open : status ≡ START_OPEN → IsTopOpen names before after found
   pub unfits : (files : List StoredFile) (sources : Sources) → before.files ≡ Some files → seekable_of files (seek_inputs names) ≡ Ok sources →
-      IsFalse (fits_at (base_of sources) sources.scenario.top) → IsOr START_UNFIT before status ⊎ (status ≡ START_OPEN)
+      IsFalse (fits_at (base_of sources) sources.scenario.top) → IsStatusOr START_UNFIT before status ⊎ (status ≡ START_OPEN)
   -- Over modelled files, if the set fits up to the scenario's own top channel, the status is 0, 1, 4 or 7. Otherwise memory ran
   -- out, or an unsteady folder failed to read.
   pub complete : (files : List StoredFile) (sources : Sources) → before.files ≡ Some files → seekable_of files (seek_inputs names) ≡ Ok sources →
-      IsTrue (fits_at (base_of sources) sources.scenario.top) → IsOr DONE before status ⊎ IsTrue (is_in (LEFT_OPEN ∷ UNWRITTEN ∷ START_OPEN ∷ []) status)
+      IsTrue (fits_at (base_of sources) sources.scenario.top) → IsStatusOr DONE before status ⊎ IsTrue (is_in (LEFT_OPEN ∷ UNWRITTEN ∷ START_OPEN ∷ []) status)
   -- Over modelled files, if nobody starts on air, the status is 0 or 4, unless memory ran out or an unsteady folder failed to
   -- read. At 0 the printed top is 14.
   pub nobody : (files : List StoredFile) (sources : Sources) → before.files ≡ Some files → seekable_of files (seek_inputs names) ≡ Ok sources →
       start_set sources.scenario ≡ [] →
-      (IsOr DONE before status ⊎ (status ≡ UNWRITTEN)) × (status ≡ DONE → Writes before.held after.held (top_text LEAST_CHANNEL false) (Ok tt))
+      (IsStatusOr DONE before status ⊎ (status ≡ UNWRITTEN)) × (status ≡ DONE → Writes before.held after.held (top_text LEAST_CHANNEL false) (Ok tt))
   -- At status 4 there are two cases. The store failed in a folder that isn't steady, its fault count rose, and the line names the
   -- file. Or the sink failed at the text of the top, for which it did not guarantee room, and over modelled files the channels
   -- are stored. The sink then grew by that text or by some of it, from the first byte on.
   pub unwritten : status ≡ UNWRITTEN →
-      (HasRisen before.faults after.faults × (before.steady ≢ true) × IsSaid before after (unwritten_line names.channels))
+      (HasRisen before.faults after.faults × (before.steady ≢ true) × IsLinePrinted before after (unwritten_line names.channels))
       ⊎ ((of : IsTopOf names before found below) × HasRisen before.cuts after.cuts
-      × (before.sure < length (top_text of.x.top of.x.is_open)) × IsSaid before after (top_text of.x.top of.x.is_open)
+      × (before.sure < length (top_text of.x.top of.x.is_open)) × IsLinePrinted before after (top_text of.x.top of.x.is_open)
       × ((files : List StoredFile) → before.files ≡ Some files → MatchOption after.files ⊥ (λ new. AreStored files new (seek_texts names of.x.rec))))
   -- At status 3, 5, 6 and 7 there is no second record.
   pub alone : IsTrue (is_in (UNREAD ∷ REFUSED ∷ START_UNFIT ∷ START_OPEN ∷ []) status) → below ≡ None
   -- Over modelled files, no file changes except CHANNELS.
   pub others : (files : List StoredFile) → before.files ≡ Some files →
-      MatchOption after.files ⊥ (λ new. AllOthersStand files new (names.channels ∷ []))
+      MatchOption after.files ⊥ (λ new. AllOthersUnchanged files new (names.channels ∷ []))

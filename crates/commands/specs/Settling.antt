@@ -4,8 +4,8 @@ use Rattle.auction_core.specs.Backed.{is_undecided}
 use Rattle.auction_core.specs.declared.record.Step.{Step}
 use Rattle.lrat_text.specs.declared.error.LratErr.{LratErr}
 use Rattle.lrat_text.specs.declared.error.LratErr.TheVariants.{Truncated, BadLine, RatStep, NoMemory}
-use Rattle.open_tests.specs.declared.settle.SettleErr.{SettleErr}
-use Rattle.open_tests.specs.declared.settle.SettleErr.TheVariants.{Unread, NoRefutation, NoMemory as NoRoom}
+use Rattle.undecided_tests.specs.declared.settle.SettleErr.{SettleErr}
+use Rattle.undecided_tests.specs.declared.settle.SettleErr.TheVariants.{Unread, NoRefutation, NoMemory as NoRoom}
 use Rattle.commands.specs.declared.settling.StepFault.{StepFault}
 use Rattle.commands.specs.declared.settling.StepFault.TheVariants.{NoSuchStep, NotUndecided}
 

@@ -4,14 +4,14 @@ use Rattle.auction_core.specs.declared.record.Record.{Record}
 use Rattle.transcript_text.specs.declared.error.TextErr.{TextErr}
 use Rattle.transcript_text.specs.declared.error.TextErr.TheVariants.{Version, BadLine, Truncated, NoMemory}
 use Rattle.auction_core.specs.declared.transcript.Transcript.{Transcript}
-use Rattle.transcript_text.specs.Named.{HasFileChannels, IsNamed}
+use Rattle.transcript_text.specs.RoundTrip.{HasFileChannels, IsNamed}
 use Rattle.transcript_text.specs.Reading.{transcript_of}
 use Rattle.auction_core.specs.declared.prefix.ShownWhy.{ShownWhy}
 use Rattle.auction_core.specs.declared.prefix.ShownWhy.TheVariants.{Order, NotValid}
 use Rattle.auction_core.specs.NotShown.{NotShown, not_shown}
 use Rattle.transcript_check.specs.Sound.{transcript_record}
-use Rattle.commands.specs.declared.fault.TranscriptFault.{TranscriptFault}
-use Rattle.commands.specs.declared.fault.TranscriptFault.TheVariants.{Unread, Unshown}
+use Rattle.commands.specs.declared.messages.fault.TranscriptFault.{TranscriptFault}
+use Rattle.commands.specs.declared.messages.fault.TranscriptFault.TheVariants.{Unread, Unshown}
 use Rattle.commands.specs.declared.inputs.Inputs.{Inputs}
 
 -- The record if every step verifies, else the fault of the first step that doesn't.

@@ -9,32 +9,32 @@ use Rattle.outside_io.specs.Loads.{Writes}
 use Rattle.auction_core.specs.declared.record.Ending.TheVariants.{Done}
 use Rattle.auction_core.specs.declared.record.Record.{Record}
 use Rattle.auction_core.specs.Backed.{IsBacked, undecided_of}
-use Rattle.transcript_text.specs.Named.{IsHeld}
+use Rattle.transcript_text.specs.RoundTrip.{IsHeld}
 use Rattle.transcript_text.specs.Spelling.{transcript_text}
-use Rattle.commands.specs.declared.fault.TranscriptFault.{TranscriptFault}
+use Rattle.commands.specs.declared.messages.fault.TranscriptFault.{TranscriptFault}
 use Rattle.commands.specs.declared.inputs.Inputs.{Inputs}
-use Rattle.commands.specs.declared.input_file.Stop.TheVariants.{CannotRead, Refused}
+use Rattle.commands.specs.declared.inputs.input_file.Stop.TheVariants.{CannotRead, Refused}
 use Rattle.command_words.specs.declared.run_words.Input.{Input}
-use Rattle.commands.specs.declared.refusal.Refusal.{Refusal}
+use Rattle.commands.specs.declared.messages.refusal.Refusal.{Refusal}
 use Rattle.commands.specs.Ends.{AreInputsOf}
 use Rattle.commands.specs.Inputs.{inputs_of, transcript_limit}
-use Rattle.commands.specs.Outside.{Outside, IsSaid}
+use Rattle.commands.specs.Outside.{Outside, IsLinePrinted}
 use Rattle.commands.specs.Records.{IsRecordIn, done_status, outcome, result_of}
-use Rattle.commands.specs.Refusals.{refusal_line}
+use Rattle.commands.specs.Refusal.{refusal_line}
 use Rattle.command_words.specs.Words.{name_of}
-use Rattle.commands.specs.Says.{long_line, unread_line}
+use Rattle.commands.specs.Messages.{long_line, unread_line}
 use Rattle.commands.specs.Statuses.{DONE, LEFT_OPEN, UNREAD, UNWRITTEN, REFUSED, NO_MEMORY, NOT_SHOWN}
 use Rattle.commands.specs.Verified.{fault_line, verified}
 use Rattle.command_words.specs.Words.{VerifyNames}
 
--- The status is this one, or 8 because memory ran out, or 3 over a folder that isn't steady.
-abbrev pub IsOr : ℕ → Outside → ℕ → Type 0
-IsOr wanted before status = (status ≡ wanted) ⊎ ((status ≡ NO_MEMORY) ⊎ ((status ≡ UNREAD) × (before.steady ≢ true)))
+-- The status is this one, or 8, or 3 over a folder that isn't steady. Whether memory really ran out at 8 is not asked.
+abbrev pub IsStatusOr : ℕ → Outside → ℕ → Type 0
+IsStatusOr wanted before status = (status ≡ wanted) ⊎ ((status ≡ NO_MEMORY) ⊎ ((status ≡ UNREAD) × (before.steady ≢ true)))
 
 -- The files hold these inputs and this text of a transcript, which is within the transcript limit.
 pub record IsGiven (files : List StoredFile) (names : VerifyNames) (inputs : Inputs) (text : List ℕ) : Type 0 where
   pub accepted : inputs_of files names.inputs ≡ Ok inputs
-  pub told : bytes_of files names.transcript ≡ Some text
+  pub modelled : bytes_of files names.transcript ≡ Some text
   pub within : length text ≤ transcript_limit
 
 -- The transcript that the files hold is sound, and its record is of the auction of the inputs in the transcript's order. The
@@ -54,7 +54,7 @@ abbrev pub verified_text : {files : List StoredFile} {names : VerifyNames} {foun
 verified_text v = result_of v.rec.order v.inputs (undecided_of v.rec.steps)
 
 -- All files that `verify` reads are there: domains, rows, scenario, transcript, and the owners' file if one is named.
-pub record AreAllThere (files : List StoredFile) (names : VerifyNames) : Type 0 where
+pub record AreAllFilesPresent (files : List StoredFile) (names : VerifyNames) : Type 0 where
   pub domains : IsSome (bytes_of files names.inputs.domains)
   pub rows : IsSome (bytes_of files names.inputs.rows)
   pub scenario : IsSome (bytes_of files names.inputs.scenario)
@@ -76,7 +76,7 @@ pub record VerifyPromises (names : VerifyNames) (before after : Outside) (status
       × Writes before.held after.held (verified_text v) (Ok tt)
   pub cut : (files : List StoredFile) → before.files ≡ Some files → status ≡ UNWRITTEN →
       (v : IsVerified files names found) × HasRisen before.cuts after.cuts × (before.sure < length (verified_text v))
-      × IsSaid before after (verified_text v)
+      × IsLinePrinted before after (verified_text v)
   pub recorded : IsTrue (is_in (DONE ∷ LEFT_OPEN ∷ UNWRITTEN ∷ []) status) →
       (inputs : Inputs) × (rec : Record) × AreInputsOf names.inputs before inputs × (found ≡ Some rec) × IsRecordIn rec.order inputs rec
   pub unrecorded : IsTrue (is_in (UNREAD ∷ REFUSED ∷ NO_MEMORY ∷ NOT_SHOWN ∷ []) status) → found ≡ None
@@ -96,44 +96,44 @@ pub record VerifyPromises (names : VerifyNames) (before after : Outside) (status
   -- failed to read.
   pub refused : (files : List StoredFile) → before.files ≡ Some files → status ≡ NOT_SHOWN →
       (inputs : Inputs) × (text : List ℕ) × IsGiven files names inputs text × (fault : TranscriptFault)
-      × (verified inputs text ≡ Err fault) × IsSaid before after (fault_line names.transcript fault)
+      × (verified inputs text ≡ Err fault) × IsLinePrinted before after (fault_line names.transcript fault)
   pub refuses : (files : List StoredFile) (inputs : Inputs) (text : List ℕ) (fault : TranscriptFault) →
-      before.files ≡ Some files → IsGiven files names inputs text → verified inputs text ≡ Err fault → IsOr NOT_SHOWN before status
+      before.files ≡ Some files → IsGiven files names inputs text → verified inputs text ≡ Err fault → IsStatusOr NOT_SHOWN before status
   -- Over modelled files a sound transcript is accepted: the status is 4, or 0 or 1 by its undecided tests. Otherwise memory ran
   -- out, or an unsteady folder failed to read.
   pub complete : (files : List StoredFile) (inputs : Inputs) (text : List ℕ) (rec : Record) →
       before.files ≡ Some files → IsGiven files names inputs text → verified inputs text ≡ Ok rec →
-      IsOr (done_status (undecided_of rec.steps)) before status ⊎ (status ≡ UNWRITTEN)
+      IsStatusOr (done_status (undecided_of rec.steps)) before status ⊎ (status ≡ UNWRITTEN)
   -- The transcript of any backed record of a completed auction is accepted too, in either order, if the record satisfies
   -- `IsHeld`.
   pub of_a_record : (files : List StoredFile) (inputs : Inputs) (rec : Record) →
       before.files ≡ Some files → IsBacked inputs.scenario inputs.book rec.order rec → rec.ending ≡ Done → IsHeld rec →
       IsGiven files names inputs (transcript_text inputs.scenario inputs.book rec) →
-      IsOr (done_status (undecided_of rec.steps)) before status ⊎ (status ≡ UNWRITTEN)
+      IsStatusOr (done_status (undecided_of rec.steps)) before status ⊎ (status ≡ UNWRITTEN)
   -- Over modelled files, at status 5 an input is too long or rejected, or the inputs are accepted and the transcript is too long.
   -- The line says which. Files of this kind end at status 5, unless memory ran out or an unsteady folder failed.
   pub halted : (files : List StoredFile) → before.files ≡ Some files → status ≡ REFUSED →
-      ((why : Refusal) × (inputs_of files names.inputs ≡ Err (Refused why)) × IsSaid before after (refusal_line names.inputs why))
+      ((why : Refusal) × (inputs_of files names.inputs ≡ Err (Refused why)) × IsLinePrinted before after (refusal_line names.inputs why))
       ⊎ ((inputs : Inputs) × (inputs_of files names.inputs ≡ Ok inputs) × (bytes : List ℕ) × (bytes_of files names.transcript ≡ Some bytes)
-      × (transcript_limit < length bytes) × IsSaid before after (long_line names.transcript))
+      × (transcript_limit < length bytes) × IsLinePrinted before after (long_line names.transcript))
   pub refuses_input : (files : List StoredFile) (why : Refusal) →
-      before.files ≡ Some files → inputs_of files names.inputs ≡ Err (Refused why) → IsOr REFUSED before status
+      before.files ≡ Some files → inputs_of files names.inputs ≡ Err (Refused why) → IsStatusOr REFUSED before status
   pub refuses_long : (files : List StoredFile) (inputs : Inputs) (bytes : List ℕ) →
       before.files ≡ Some files → inputs_of files names.inputs ≡ Ok inputs → bytes_of files names.transcript ≡ Some bytes →
-      transcript_limit < length bytes → IsOr REFUSED before status
+      transcript_limit < length bytes → IsStatusOr REFUSED before status
   -- At status 3 the folder's fault count rose, and the line names an input or the transcript. Over a steady folder whose modelled
   -- files include all those that `verify` reads, the status is not 3. If a steady folder's reading first stops at a missing file,
   -- the line names that file at status 3, or the status is 8.
   pub unread : status ≡ UNREAD → HasRisen before.faults after.faults
   pub unread_says : status ≡ UNREAD →
-      ((input : Input) × IsSaid before after (unread_line (name_of names.inputs input))) ⊎ IsSaid before after (unread_line names.transcript)
-  pub surely_read : (files : List StoredFile) → before.files ≡ Some files → before.steady ≡ true → AreAllThere files names → status ≢ UNREAD
+      ((input : Input) × IsLinePrinted before after (unread_line (name_of names.inputs input))) ⊎ IsLinePrinted before after (unread_line names.transcript)
+  pub surely_read : (files : List StoredFile) → before.files ≡ Some files → before.steady ≡ true → AreAllFilesPresent files names → status ≢ UNREAD
   pub missing : (files : List StoredFile) (input : Input) →
       before.files ≡ Some files → before.steady ≡ true → inputs_of files names.inputs ≡ Err (CannotRead input) →
-      (status ≡ NO_MEMORY) ⊎ ((status ≡ UNREAD) × IsSaid before after (unread_line (name_of names.inputs input)))
+      (status ≡ NO_MEMORY) ⊎ ((status ≡ UNREAD) × IsLinePrinted before after (unread_line (name_of names.inputs input)))
   pub missing_transcript : (files : List StoredFile) (inputs : Inputs) →
       before.files ≡ Some files → before.steady ≡ true → inputs_of files names.inputs ≡ Ok inputs → bytes_of files names.transcript ≡ None →
-      (status ≡ NO_MEMORY) ⊎ ((status ≡ UNREAD) × IsSaid before after (unread_line names.transcript))
+      (status ≡ NO_MEMORY) ⊎ ((status ≡ UNREAD) × IsLinePrinted before after (unread_line names.transcript))
   -- At status 4 the sink's fault count rose. Over modelled files the status is not 4 if the sink guarantees room for the result
   -- of every record that the transcript could show.
   pub unwritten : status ≡ UNWRITTEN → HasRisen before.cuts after.cuts

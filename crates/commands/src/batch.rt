@@ -13,16 +13,16 @@ ghost use Rattle.commands.specs.Delivery.{Delivers};
 ghost use Rattle.commands.specs.Faults.{AreFaultsCounted};
 ghost use Rattle.commands.specs.Outside.{outside};
 ghost use Rattle.commands.specs.Statuses.{LEFT_OPEN};
-ghost use Rattle.command_words.specs.Words.{batch_seen};
+ghost use Rattle.command_words.specs.Words.{batch_view};
 
-use crate::batch_inputs::{ReadBatch, read_each, read_listed};
-use crate::batch_run::{Ran, run_all};
+use crate::batch_run::{BatchRunResult, run_all};
 use crate::delivery::store;
-use crate::explain::{explain, starve};
 use crate::finish::Finish;
 use crate::inputs::Inputs;
+use crate::inputs::batch_inputs::{ReadBatch, read_each, read_listed};
+use crate::messages::explain::{end_out_of_memory, explain};
+use crate::messages::print_line;
 use crate::run::done_status;
-use crate::says::say;
 use crate::status::{DONE, LEFT_OPEN, REFUSED, SOME_UNSTARTED, START_OPEN, START_UNFIT, UNWRITTEN};
 use auction_core::record::{Ending, Record};
 use batch_list::line::BatchLine;
@@ -46,11 +46,11 @@ struct Results {
 
 impl Results {
     // Appends one auction. Fails only if memory runs out.
-    fn push(&mut self, ran: Ran) -> Result<(), NoMemory>
+    fn push(&mut self, ran: BatchRunResult) -> Result<(), NoMemory>
         ensures records { OnOk result (self.new.records.items ≡ self.old.records.items ++ ran.record ∷ []) }
         ensures texts { OnOk result (self.new.texts.items ≡ self.old.texts.items ++ ran.result ∷ []) }
     {
-        let Ran { record, result } = ran;
+        let BatchRunResult { record, result } = ran;
         self.records.push(record)?;
         self.texts.push(result)?;
         Ok(())
@@ -58,7 +58,7 @@ impl Results {
 }
 
 // Separates the records of these auctions from the texts of their results. Fails only if memory runs out.
-fn parted(alloc: Global, rans: Vec<Ran>) -> Result<Results, NoMemory>
+fn split_results(alloc: Global, rans: Vec<BatchRunResult>) -> Result<Results, NoMemory>
     ensures records { IfOk result (λ r. r.records.items ≡ map (λ ran. ran.record) rans.items) }
     ensures texts { IfOk result (λ r. r.texts.items ≡ map (λ ran. ran.result) rans.items) }
 {
@@ -155,9 +155,9 @@ fn deliver<F: Folder, K: Sink>(
 ) -> u8
     requires { length texts.now ≡ length lines.now }
     ensures delivers { Delivers (texts_under lines.now (map (option_map (λ v. v.items)) texts.now)) printed.now done
-        (outside (F.told folder.old) (K.told out.old)) (outside (F.told folder.new) (K.told out.new)) result }
+        (outside (F.modelled folder.old) (K.modelled out.old)) (outside (F.modelled folder.new) (K.modelled out.new)) result }
     ensures counted { AreFaultsCounted
-        (outside (F.told folder.old) (K.told out.old)) (outside (F.told folder.new) (K.told out.new)) result }
+        (outside (F.modelled folder.old) (K.modelled out.old)) (outside (F.modelled folder.new) (K.modelled out.new)) result }
 {
     let Some((line, lines_left)) = lines.split_first() else {
         return match out.write(printed) {
@@ -201,7 +201,7 @@ fn carry_all_out<G: Gate + Sync, W: Threads + Wait + Sync>(
     ensures long { IfOk result (λ c. length c.texts.items ≡ length lines.now) }
 {
     let rans = run_all(rt, alloc, auctions, gate)?;
-    let Results { records, texts } = parted(alloc, rans)?;
+    let Results { records, texts } = split_results(alloc, rans)?;
     let printed = status_lines(alloc, lines, &records)?;
     Ok(CarriedBatch {
         records,
@@ -229,12 +229,12 @@ pub fn batch<F: Folder, K: Sink, G: Gate + Sync, W: Threads + Wait + Sync>(
     out: &mut K,
     gate: &G,
 ) -> Finish
-    ensures ends { BatchEnds (batch_seen files.now)
-        (outside (F.told folder.old) (K.told out.old)) (outside (F.told folder.new) (K.told out.new)) result.status result.batch }
+    ensures ends { BatchEnds (batch_view files.now)
+        (outside (F.modelled folder.old) (K.modelled out.old)) (outside (F.modelled folder.new) (K.modelled out.new)) result.status result.batch }
     ensures none { result.result ≡ None }
     ensures no_other { result.below ≡ None }
     ensures counted { AreFaultsCounted
-        (outside (F.told folder.old) (K.told out.old)) (outside (F.told folder.new) (K.told out.new)) result.status }
+        (outside (F.modelled folder.old) (K.modelled out.old)) (outside (F.modelled folder.new) (K.modelled out.new)) result.status }
 {
     let names = files.inputs_with(files.list);
     let listed = match read_listed(alloc, folder, &names) {
@@ -242,7 +242,7 @@ pub fn batch<F: Folder, K: Sink, G: Gate + Sync, W: Threads + Wait + Sync>(
         Err(stop) => return Finish::without_record(explain(out, &names, stop)),
     };
     if let Some(name) = first_repeated(&[files.domains, files.rows, files.list], &listed.lines) {
-        say(out, &[name, ": given twice\n"]);
+        print_line(out, &[name, ": given twice\n"]);
         return Finish::without_record(REFUSED);
     }
     let ReadBatch { lines, inputs } = match read_each(alloc, folder, out, files, listed) {
@@ -250,7 +250,7 @@ pub fn batch<F: Folder, K: Sink, G: Gate + Sync, W: Threads + Wait + Sync>(
         Err(status) => return Finish::without_record(status),
     };
     let Ok(carried) = carry_all_out(rt, alloc, &lines, inputs, gate) else {
-        return starve(out);
+        return end_out_of_memory(out);
     };
     let done = batch_status(&carried.records);
     let status = deliver(folder, out, &lines, &carried.texts, &carried.printed, done);

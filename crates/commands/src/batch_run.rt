@@ -14,7 +14,7 @@ ghost use Rattle.std.specs.List.{AllZip};
 ghost use Rattle.std.specs.Thread.{IsSync};
 ghost use Rattle.auction_core.specs.Setup.{IsOfAuction};
 ghost use Rattle.commands.specs.Batch.{own_text};
-ghost use Rattle.commands.specs.BatchRuns.{IsRun};
+ghost use Rattle.commands.specs.BatchRun.{IsRun};
 ghost use Rattle.commands.specs.Records.{IsRecordBy};
 
 use crate::inputs::Inputs;
@@ -68,7 +68,7 @@ impl Permits {
 
 /// An auction that was run: its record, and the text of its result, unless it ended at its start.
 #[derive(Drop)]
-pub struct Ran {
+pub struct BatchRunResult {
     pub record: Record,
     pub result: Option<Vec<u8>>,
 }
@@ -111,13 +111,13 @@ fn carry_out<G: Gate + Sync, W: Threads + Wait + Sync>(
     inputs: Inputs,
     cache: &Mutex<Cache>,
     gate: &G,
-) -> Result<Ran, NoMemory>
+) -> Result<BatchRunResult, NoMemory>
     requires { IsOfAuction inputs.scenario inputs.book }
     ensures { IfOk result (IsRun inputs) }
 {
     let record = cached_auction_of(rt, alloc, &inputs, cache, gate)?;
     let result = result_of(alloc, &inputs, &record)?;
-    Ok(Ran { record, result })
+    Ok(BatchRunResult { record, result })
 }
 
 // Runs one auction once it has a permit. The permit is given back also if memory runs out.
@@ -128,7 +128,7 @@ fn carry_out_in_turn<G: Gate + Sync, W: Threads + Wait + Sync>(
     cache: &Mutex<Cache>,
     permits: &Permits,
     gate: &G,
-) -> Result<Ran, NoMemory>
+) -> Result<BatchRunResult, NoMemory>
     requires { IsOfAuction inputs.scenario inputs.book }
     ensures { IfOk result (IsRun inputs) }
 {
@@ -149,14 +149,14 @@ pub fn run_all<G: Gate + Sync, W: Threads + Wait + Sync>(
     alloc: Global,
     auctions: Vec<Inputs>,
     gate: &G,
-) -> Result<Vec<Ran>, NoMemory>
+) -> Result<Vec<BatchRunResult>, NoMemory>
     requires { All (λ i. IsOfAuction i.scenario i.book) auctions.items }
     ensures { IfOk result (λ rans. AllZip IsRun auctions.items rans.items) }
 {
     let cache = Mutex::new(Cache::make(alloc, CACHE_ROOM)?);
     let permits = Permits::make(rt);
     let rans = run_each(rt, alloc, auctions, &cache, &permits, gate)?;
-    all_of(alloc, rans)
+    all_or_error(alloc, rans)
 }
 
 // Runs these auctions with this cache and these permits. Returns for each of them what was run, or that it ran out of memory.
@@ -167,11 +167,11 @@ fn run_each<G: Gate + Sync, W: Threads + Wait + Sync>(
     cache: &Mutex<Cache>,
     permits: &Permits,
     gate: &G,
-) -> Result<Vec<Result<Ran, NoMemory>>, NoMemory>
+) -> Result<Vec<Result<BatchRunResult, NoMemory>>, NoMemory>
     requires { All (λ i. IsOfAuction i.scenario i.book) auctions.items }
     ensures { IfOk result (λ rans. AllZip (λ i ran. IfOk ran (IsRun i)) auctions.items rans.items) }
 {
-    let part = |inputs: Inputs| -> Result<Ran, NoMemory>
+    let part = |inputs: Inputs| -> Result<BatchRunResult, NoMemory>
         requires { IsSync W.row × IsSync G.row × IsOfAuction inputs.scenario inputs.book }
         ensures { IfOk result (IsRun inputs) }
     { carry_out_in_turn(rt, alloc, inputs, cache, permits, gate) };
@@ -179,7 +179,10 @@ fn run_each<G: Gate + Sync, W: Threads + Wait + Sync>(
 }
 
 // Returns all these auctions. Fails if one of them ran out of memory, or if memory runs out here.
-fn all_of(alloc: Global, rans: Vec<Result<Ran, NoMemory>>) -> Result<Vec<Ran>, NoMemory>
+fn all_or_error(
+    alloc: Global,
+    rans: Vec<Result<BatchRunResult, NoMemory>>,
+) -> Result<Vec<BatchRunResult>, NoMemory>
     ensures { IfOk result (λ all. map (λ ran. Ok ran) all.items ≡ rans.items) }
 {
     let mut all = Vec::new(alloc);

@@ -3,15 +3,15 @@
 //! Only `auction_cmd` calls it.
 
 ghost use Rattle.std.specs.Prelude.{◌≡◌, [], IfOk, None};
-ghost use Rattle.commands.specs.Counts.{counts_text};
+ghost use Rattle.commands.specs.Check.{counts_text};
 ghost use Rattle.commands.specs.Ends.{CheckEnds};
 ghost use Rattle.commands.specs.Faults.{AreFaultsCounted};
 ghost use Rattle.commands.specs.Outside.{outside};
-ghost use Rattle.command_words.specs.Words.{inputs_seen};
+ghost use Rattle.command_words.specs.Words.{inputs_view};
 
-use crate::explain::{explain, starve};
 use crate::finish::Finish;
 use crate::inputs::{Inputs, read_inputs};
+use crate::messages::explain::{end_out_of_memory, explain};
 use crate::status::{DONE, UNWRITTEN};
 use command_words::run_words::InputArgs;
 use outside_io::folder::Folder;
@@ -20,7 +20,7 @@ use result_text::counts::push_count;
 use std::alloc::{AllocError as NoMemory, Global};
 
 // Returns the text of the inputs' counts, each on a line of its own.
-#[tactic(auto, unfolding(crate::specs::Counts::counts_text))]
+#[tactic(auto, unfolding(crate::specs::Check::counts_text))]
 fn counts(alloc: Global, inputs: &Inputs) -> Result<Vec<u8>, NoMemory>
     ensures { IfOk result (λ text. text.items ≡ counts_text inputs.now) }
 {
@@ -42,19 +42,19 @@ pub fn check<F: Folder, K: Sink>(
     folder: &mut F,
     out: &mut K,
 ) -> Finish
-    ensures ends { CheckEnds (inputs_seen files.now)
-        (outside (F.told folder.old) (K.told out.old)) (outside (F.told folder.new) (K.told out.new)) result.status result.result }
+    ensures ends { CheckEnds (inputs_view files.now)
+        (outside (F.modelled folder.old) (K.modelled out.old)) (outside (F.modelled folder.new) (K.modelled out.new)) result.status result.result }
     ensures no_other { result.below ≡ None }
     ensures no_batch { result.batch ≡ [] }
     ensures counted { AreFaultsCounted
-        (outside (F.told folder.old) (K.told out.old)) (outside (F.told folder.new) (K.told out.new)) result.status }
+        (outside (F.modelled folder.old) (K.modelled out.old)) (outside (F.modelled folder.new) (K.modelled out.new)) result.status }
 {
     let inputs = match read_inputs(alloc, folder, files) {
         Ok(inputs) => inputs,
         Err(stop) => return Finish::without_record(explain(out, files, stop)),
     };
     let Ok(text) = counts(alloc, &inputs) else {
-        return starve(out);
+        return end_out_of_memory(out);
     };
     match out.write(&text) {
         Ok(()) => Finish::without_record(DONE),

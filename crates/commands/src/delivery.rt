@@ -7,8 +7,8 @@ ghost use Rattle.commands.specs.Delivery.{AreAllStored, Delivers, ExplainsStore,
 ghost use Rattle.commands.specs.Faults.{AreFaultsCounted};
 ghost use Rattle.commands.specs.Outside.{outside};
 
-use crate::explain::say_memory;
-use crate::says::say;
+use crate::messages::explain::print_out_of_memory;
+use crate::messages::print_line;
 use crate::status::{NO_MEMORY, UNWRITTEN};
 use outside_io::folder::{Folder, NewFile, StoreErr};
 use outside_io::sink::Sink;
@@ -26,16 +26,16 @@ pub fn store<F: Folder, K: Sink>(
     text: &[u8],
 ) -> Result<(), u8>
     ensures stored { OnOk result (IsStored (named name.now text.now)
-        (outside (F.told folder.old) (K.told out.old)) (outside (F.told folder.new) (K.told out.new))) }
-    ensures uncounted { OnOk result ((F.told folder.new).faults ≡ (F.told folder.old).faults) }
+        (outside (F.modelled folder.old) (K.modelled out.old)) (outside (F.modelled folder.new) (K.modelled out.new))) }
+    ensures faults_unchanged { OnOk result ((F.modelled folder.new).faults ≡ (F.modelled folder.old).faults) }
     ensures counted { IfErr result (AreFaultsCounted
-        (outside (F.told folder.old) (K.told out.old)) (outside (F.told folder.new) (K.told out.new))) }
+        (outside (F.modelled folder.old) (K.modelled out.old)) (outside (F.modelled folder.new) (K.modelled out.new))) }
     ensures not_stored { IfErr result (IsNotStored (named name.now text.now)
-        (outside (F.told folder.old) (K.told out.old)) (outside (F.told folder.new) (K.told out.new))) }
+        (outside (F.modelled folder.old) (K.modelled out.old)) (outside (F.modelled folder.new) (K.modelled out.new))) }
 {
     match folder.store(name, text) {
         Ok(()) => Ok(()),
-        Err(why) => Err(say_unstored(out, name, why)),
+        Err(why) => Err(print_unstored(out, name, why)),
     }
 }
 
@@ -52,32 +52,32 @@ pub fn store_all<F: Folder, K: Sink>(
     texts: &[NewFile<'_>],
 ) -> Result<(), u8>
     ensures stored { OnOk result (AreAllStored (map named_text texts.now)
-        (outside (F.told folder.old) (K.told out.old)) (outside (F.told folder.new) (K.told out.new))) }
-    ensures uncounted { OnOk result ((F.told folder.new).faults ≡ (F.told folder.old).faults) }
-    ensures unsaid { OnOk result ((K.told out.new).faults ≡ (K.told out.old).faults) }
+        (outside (F.modelled folder.old) (K.modelled out.old)) (outside (F.modelled folder.new) (K.modelled out.new))) }
+    ensures faults_unchanged { OnOk result ((F.modelled folder.new).faults ≡ (F.modelled folder.old).faults) }
+    ensures sink_faults_unchanged { OnOk result ((K.modelled out.new).faults ≡ (K.modelled out.old).faults) }
     ensures counted { IfErr result (AreFaultsCounted
-        (outside (F.told folder.old) (K.told out.old)) (outside (F.told folder.new) (K.told out.new))) }
+        (outside (F.modelled folder.old) (K.modelled out.old)) (outside (F.modelled folder.new) (K.modelled out.new))) }
     ensures stopped { IfErr result (StopsAtOne (map named_text texts.now)
-        (outside (F.told folder.old) (K.told out.old)) (outside (F.told folder.new) (K.told out.new))) }
+        (outside (F.modelled folder.old) (K.modelled out.old)) (outside (F.modelled folder.new) (K.modelled out.new))) }
 {
     match folder.store_all(texts) {
         Ok(()) => Ok(()),
-        Err(unstored) => Err(say_unstored(out, texts[unstored.at].name, unstored.why)),
+        Err(unstored) => Err(print_unstored(out, texts[unstored.at].name, unstored.why)),
     }
 }
 
 // Prints why the text under this name was not stored, and returns the status for it. Allocates no memory.
-fn say_unstored<K: Sink>(out: &mut K, name: &str, why: StoreErr) -> u8
+fn print_unstored<K: Sink>(out: &mut K, name: &str, why: StoreErr) -> u8
     ensures { ExplainsStore name.now why
-        (K.told out.old).held (K.told out.new).held (K.told out.old).faults (K.told out.new).faults result }
+        (K.modelled out.old).held (K.modelled out.new).held (K.modelled out.old).faults (K.modelled out.new).faults result }
 {
     match why {
         StoreErr::Failed => {
-            say(out, &["cannot write ", name, "\n"]);
+            print_line(out, &["cannot write ", name, "\n"]);
             UNWRITTEN
         }
         StoreErr::NoMemory => {
-            say_memory(out);
+            print_out_of_memory(out);
             NO_MEMORY
         }
     }
@@ -93,9 +93,9 @@ pub fn deliver<F: Folder, K: Sink>(
     done: u8,
 ) -> u8
     ensures delivers { Delivers (map named_text texts.now) summary.now done
-        (outside (F.told folder.old) (K.told out.old)) (outside (F.told folder.new) (K.told out.new)) result }
+        (outside (F.modelled folder.old) (K.modelled out.old)) (outside (F.modelled folder.new) (K.modelled out.new)) result }
     ensures counted { AreFaultsCounted
-        (outside (F.told folder.old) (K.told out.old)) (outside (F.told folder.new) (K.told out.new)) result }
+        (outside (F.modelled folder.old) (K.modelled out.old)) (outside (F.modelled folder.new) (K.modelled out.new)) result }
 {
     if let Err(status) = store_all(folder, out, texts) {
         return status;

@@ -1,6 +1,6 @@
 //! The command `export`: stores the packing formula of a step's test, for a prover of the user's own.
 //!
-//! `shown` reads and checks the transcript, and `open_tests` makes the formula. Only `auction_cmd` calls it.
+//! `shown` reads and checks the transcript, and `undecided_tests` makes the formula. Only `auction_cmd` calls it.
 
 ghost use Rattle.std.specs.Prelude.{◌≡◌, [], IfOk, None};
 ghost use Rattle.auction_core.specs.Setup.{IsOfAuction};
@@ -9,23 +9,23 @@ ghost use Rattle.commands.specs.Faults.{AreFaultsCounted};
 ghost use Rattle.commands.specs.Outside.{outside};
 ghost use Rattle.commands.specs.Records.{IsRecordIn};
 ghost use Rattle.commands.specs.Settling.{missing_fault};
-ghost use Rattle.command_words.specs.Words.{export_seen};
-ghost use Rattle.open_tests.specs.Queries.{step_numbered};
-ghost use Rattle.open_tests.specs.Settling.{formula_text};
+ghost use Rattle.command_words.specs.Words.{export_view};
+ghost use Rattle.undecided_tests.specs.Queries.{step_numbered};
+ghost use Rattle.undecided_tests.specs.Settling.{formula_text};
 
 use crate::delivery::store;
-use crate::explain::starve;
 use crate::finish::Finish;
 use crate::inputs::Inputs;
-use crate::settling::{missing_fault, say_step};
-use crate::shown::shown_by;
+use crate::messages::explain::end_out_of_memory;
+use crate::settling::{missing_fault, print_step_fault};
+use crate::shown::read_verified;
 use crate::status::{DONE, NOT_SETTLED};
 use auction_core::record::Record;
 use command_words::proof_words::ExportArgs;
-use open_tests::formula::formula_of_step;
 use outside_io::folder::Folder;
 use outside_io::sink::Sink;
 use std::alloc::{AllocError as NoMemory, Global};
+use undecided_tests::formula::formula_of_step;
 
 // Returns the text of the packing formula of the stations that this step asked about.
 fn formula_of(alloc: Global, inputs: &Inputs, rec: &Record, step: u32) -> Result<Vec<u8>, NoMemory>
@@ -38,7 +38,7 @@ fn formula_of(alloc: Global, inputs: &Inputs, rec: &Record, step: u32) -> Result
     Ok(text)
 }
 
-// Stores the formula of the step. `inputs` and `rec` are what `shown_by` returned.
+// Stores the formula of the step. `inputs` and `rec` are what `read_verified` returned.
 fn store_formula<F: Folder, K: Sink>(
     alloc: Global,
     files: &ExportArgs<'_>,
@@ -48,20 +48,20 @@ fn store_formula<F: Folder, K: Sink>(
     rec: &Record,
 ) -> Finish
     requires auction { IsOfAuction inputs.now.scenario inputs.now.book }
-    requires shown { IsShown (export_seen files.now).shown (outside (F.told folder.old) (K.told out.old)) inputs.now rec.now }
-    ensures ends { ExportEnds (export_seen files.now)
-        (outside (F.told folder.old) (K.told out.old)) (outside (F.told folder.new) (K.told out.new)) result.status result.result }
+    requires shown { IsShown (export_view files.now).shown (outside (F.modelled folder.old) (K.modelled out.old)) inputs.now rec.now }
+    ensures ends { ExportEnds (export_view files.now)
+        (outside (F.modelled folder.old) (K.modelled out.old)) (outside (F.modelled folder.new) (K.modelled out.new)) result.status result.result }
     ensures no_other { result.below ≡ None }
     ensures no_batch { result.batch ≡ [] }
     ensures counted { AreFaultsCounted
-        (outside (F.told folder.old) (K.told out.old)) (outside (F.told folder.new) (K.told out.new)) result.status }
+        (outside (F.modelled folder.old) (K.modelled out.old)) (outside (F.modelled folder.new) (K.modelled out.new)) result.status }
 {
     if let Some(fault) = missing_fault(rec, files.step) {
-        say_step(out, files.step, fault);
+        print_step_fault(out, files.step, fault);
         return Finish::without_record(NOT_SETTLED);
     }
     let Ok(text) = formula_of(alloc, inputs, rec, files.step) else {
-        return starve(out);
+        return end_out_of_memory(out);
     };
     match store(folder, out, files.formula, &text) {
         Ok(()) => Finish::without_record(DONE),
@@ -78,14 +78,14 @@ pub fn export<F: Folder, K: Sink>(
     folder: &mut F,
     out: &mut K,
 ) -> Finish
-    ensures ends { ExportEnds (export_seen files.now)
-        (outside (F.told folder.old) (K.told out.old)) (outside (F.told folder.new) (K.told out.new)) result.status result.result }
+    ensures ends { ExportEnds (export_view files.now)
+        (outside (F.modelled folder.old) (K.modelled out.old)) (outside (F.modelled folder.new) (K.modelled out.new)) result.status result.result }
     ensures no_other { result.below ≡ None }
     ensures no_batch { result.batch ≡ [] }
     ensures counted { AreFaultsCounted
-        (outside (F.told folder.old) (K.told out.old)) (outside (F.told folder.new) (K.told out.new)) result.status }
+        (outside (F.modelled folder.old) (K.modelled out.old)) (outside (F.modelled folder.new) (K.modelled out.new)) result.status }
 {
-    match shown_by(alloc, &files.shown, folder, out) {
+    match read_verified(alloc, &files.shown, folder, out) {
         Ok(shown) => store_formula(alloc, files, folder, out, &shown.inputs, &shown.record),
         Err(finish) => finish,
     }

@@ -1,40 +1,40 @@
 //! The command `import`: settles an undecided step by a proof from outside.
 //!
-//! `shown` reads and checks the transcript, and `open_tests` settles the step. Only `auction_cmd` calls it.
+//! `shown` reads and checks the transcript, and `undecided_tests` settles the step. Only `auction_cmd` calls it.
 
 ghost use Rattle.std.specs.Prelude.{◌≡◌, [], IfOk, None};
 ghost use Rattle.pack_defs.specs.Scenario.{IsWithinLimits};
 ghost use Rattle.auction_core.specs.Backed.{undecided_of};
 ghost use Rattle.auction_core.specs.Setup.{IsOfAuction};
 ghost use Rattle.transcript_text.specs.Spelling.{transcript_text};
-ghost use Rattle.open_tests.specs.Queries.{step_numbered};
-ghost use Rattle.open_tests.specs.Settling.{settled_text};
+ghost use Rattle.undecided_tests.specs.Queries.{step_numbered};
+ghost use Rattle.undecided_tests.specs.Settling.{settled_text};
 ghost use Rattle.commands.specs.Ends.{ImportEnds, IsShown};
 ghost use Rattle.commands.specs.Faults.{AreFaultsCounted};
 ghost use Rattle.commands.specs.Outside.{outside};
 ghost use Rattle.commands.specs.Records.{IsRecordIn, result_of, summary_in};
 ghost use Rattle.commands.specs.Settling.{open_fault};
-ghost use Rattle.commands.specs.Transcripts.{ExplainsLog, IsSettling};
-ghost use Rattle.command_words.specs.Words.{import_seen};
+ghost use Rattle.commands.specs.Shown.{ExplainsLog, IsSettling};
+ghost use Rattle.command_words.specs.Words.{import_view};
 
 use crate::delivery::deliver;
-use crate::explain::{say_memory, starve};
 use crate::finish::Finish;
 use crate::inputs::Inputs;
+use crate::messages::explain::{end_out_of_memory, print_out_of_memory};
 use crate::run::done_status;
-use crate::settling::{open_fault, say_log, say_step};
-use crate::shown::{ShownAuction, file_bytes, say_unloaded, shown_by};
+use crate::settling::{open_fault, print_log_fault, print_step_fault};
+use crate::shown::{ShownAuction, file_bytes, print_unloaded, read_verified};
 use crate::status::{NO_MEMORY, NOT_SETTLED};
 use crate::verify::result_text;
 use auction_core::record::Record;
 use command_words::proof_words::ImportArgs;
-use open_tests::settle::{SettleErr, settle_by_text};
 use outside_io::folder::{Folder, NewFile};
 use outside_io::sink::Sink;
 use result_text::counts::summary;
 use std::alloc::{AllocError as NoMemory, Global};
-use transcript_text::again::keeps_ascending_fits;
+use transcript_text::round_trip::keeps_ascending_fits;
 use transcript_text::write::write_transcript;
+use undecided_tests::settle::{SettleErr, settle_from_text};
 
 // The texts of a record in which a step was settled.
 #[derive(Drop)]
@@ -58,19 +58,19 @@ fn settled_by(
     ensures { IsSettling inputs.now (settled_text inputs.now.book rec step text.now) result }
 {
     inputs.book.keeps_order();
-    settle_by_text(alloc, rec, &inputs.book, step, text)
+    settle_from_text(alloc, rec, &inputs.book, step, text)
 }
 
 // Prints why the log of this name settled nothing, and returns the status for it.
-fn say_unsettled<K: Sink>(out: &mut K, name: &str, why: SettleErr) -> u8
+fn print_unsettled<K: Sink>(out: &mut K, name: &str, why: SettleErr) -> u8
     ensures { ExplainsLog name.now why
-        (K.told out.old).held (K.told out.new).held (K.told out.old).faults (K.told out.new).faults result }
+        (K.modelled out.old).held (K.modelled out.new).held (K.modelled out.old).faults (K.modelled out.new).faults result }
 {
     if let SettleErr::NoMemory = why {
-        say_memory(out);
+        print_out_of_memory(out);
         return NO_MEMORY;
     }
-    say_log(out, name, why);
+    print_log_fault(out, name, why);
     NOT_SETTLED
 }
 
@@ -92,7 +92,7 @@ fn texts_of(alloc: Global, inputs: &Inputs, rec: &Record) -> Result<Texts, NoMem
     })
 }
 
-// Settles the step by the log, and stores and prints the texts of the new record. `inputs` and `rec` are what `shown_by`
+// Settles the step by the log, and stores and prints the texts of the new record. `inputs` and `rec` are what `read_verified`
 // returned.
 fn settle<F: Folder, K: Sink>(
     alloc: Global,
@@ -103,28 +103,28 @@ fn settle<F: Folder, K: Sink>(
     rec: Record,
 ) -> Finish
     requires auction { IsOfAuction inputs.now.scenario inputs.now.book }
-    requires shown { IsShown (import_seen files.now).shown (outside (F.told folder.old) (K.told out.old)) inputs.now rec }
-    ensures ends { ImportEnds (import_seen files.now)
-        (outside (F.told folder.old) (K.told out.old)) (outside (F.told folder.new) (K.told out.new)) result.status result.result }
+    requires shown { IsShown (import_view files.now).shown (outside (F.modelled folder.old) (K.modelled out.old)) inputs.now rec }
+    ensures ends { ImportEnds (import_view files.now)
+        (outside (F.modelled folder.old) (K.modelled out.old)) (outside (F.modelled folder.new) (K.modelled out.new)) result.status result.result }
     ensures no_other { result.below ≡ None }
     ensures no_batch { result.batch ≡ [] }
     ensures counted { AreFaultsCounted
-        (outside (F.told folder.old) (K.told out.old)) (outside (F.told folder.new) (K.told out.new)) result.status }
+        (outside (F.modelled folder.old) (K.modelled out.old)) (outside (F.modelled folder.new) (K.modelled out.new)) result.status }
 {
     if let Some(fault) = open_fault(&rec, files.step) {
-        say_step(out, files.step, fault);
+        print_step_fault(out, files.step, fault);
         return Finish::without_record(NOT_SETTLED);
     }
     let log = match file_bytes(alloc, folder, files.proof) {
         Ok(log) => log,
-        Err(why) => return Finish::without_record(say_unloaded(out, files.proof, why)),
+        Err(why) => return Finish::without_record(print_unloaded(out, files.proof, why)),
     };
     let settled = match settled_by(alloc, inputs, rec, files.step, &log) {
         Ok(settled) => settled,
-        Err(why) => return Finish::without_record(say_unsettled(out, files.proof, why)),
+        Err(why) => return Finish::without_record(print_unsettled(out, files.proof, why)),
     };
     let Ok(texts) = texts_of(alloc, inputs, &settled) else {
-        return starve(out);
+        return end_out_of_memory(out);
     };
     keeps_ascending_fits(&settled);
     let done = done_status(&settled);
@@ -153,14 +153,14 @@ pub fn import<F: Folder, K: Sink>(
     folder: &mut F,
     out: &mut K,
 ) -> Finish
-    ensures ends { ImportEnds (import_seen files.now)
-        (outside (F.told folder.old) (K.told out.old)) (outside (F.told folder.new) (K.told out.new)) result.status result.result }
+    ensures ends { ImportEnds (import_view files.now)
+        (outside (F.modelled folder.old) (K.modelled out.old)) (outside (F.modelled folder.new) (K.modelled out.new)) result.status result.result }
     ensures no_other { result.below ≡ None }
     ensures no_batch { result.batch ≡ [] }
     ensures counted { AreFaultsCounted
-        (outside (F.told folder.old) (K.told out.old)) (outside (F.told folder.new) (K.told out.new)) result.status }
+        (outside (F.modelled folder.old) (K.modelled out.old)) (outside (F.modelled folder.new) (K.modelled out.new)) result.status }
 {
-    match shown_by(alloc, &files.shown, folder, out) {
+    match read_verified(alloc, &files.shown, folder, out) {
         Ok(ShownAuction { inputs, record }) => settle(alloc, files, folder, out, &inputs, record),
         Err(finish) => finish,
     }

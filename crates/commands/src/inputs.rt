@@ -6,12 +6,17 @@ ghost use Rattle.std.specs.Prelude.{◌≡◌, List, Some, IfOk, option_map};
 ghost use Rattle.outside_io.specs.Files.{StoredFile};
 ghost use Rattle.pack_defs.specs.Book.{stations_of};
 ghost use Rattle.pack_defs.specs.Scenario.{IsWithinLimits, facilities};
-ghost use Rattle.commands.specs.Inputs.{Agrees, CountsFault, inputs_of, said_in, valued_of, with_said};
-ghost use Rattle.command_words.specs.Words.{inputs_seen};
+ghost use Rattle.commands.specs.Inputs.{Agrees, CountsFault, inputs_of, owners_in, valued_of, with_owners_file};
+ghost use Rattle.command_words.specs.Words.{inputs_view};
 
-use crate::input_file::{Stop, load};
-use crate::refusal::Refusal;
-use crate::sources::{book_of, read_sources};
+pub(crate) mod batch_inputs;
+pub(crate) mod constraints;
+pub mod input_file;
+pub(crate) mod sources;
+
+use crate::inputs::input_file::{Stop, load};
+use crate::inputs::sources::{book_of, read_sources};
+use crate::messages::refusal::Refusal;
 use command_words::run_words::{Input, InputArgs};
 use offer_sched::offers::last_round;
 use outside_io::folder::Folder;
@@ -40,13 +45,13 @@ fn read_valued<F: Folder>(
     folder: &mut F,
     names: &InputArgs<'_>,
 ) -> Result<Inputs, Stop>
-    ensures told { (files : List StoredFile) → (F.told folder.old).files ≡ Some files →
-        Agrees (λ i. i) (F.told folder.old).steady (valued_of files (inputs_seen names.now)) result }
+    ensures modelled { (files : List StoredFile) → (F.modelled folder.old).files ≡ Some files →
+        Agrees (λ i. i) (F.modelled folder.old).steady (valued_of files (inputs_view names.now)) result }
     ensures limits { IfOk result (λ i. IsWithinLimits i.scenario) }
     ensures stations { IfOk result (λ i. stations_of i.book ≡ facilities i.scenario) }
-    ensures files { (F.told folder.new).files ≡ (F.told folder.old).files }
-    ensures steady { (F.told folder.new).steady ≡ (F.told folder.old).steady }
-    ensures counted { CountsFault (F.told folder.old).faults (F.told folder.new).faults result }
+    ensures files { (F.modelled folder.new).files ≡ (F.modelled folder.old).files }
+    ensures steady { (F.modelled folder.new).steady ≡ (F.modelled folder.old).steady }
+    ensures counted { CountsFault (F.modelled folder.old).faults (F.modelled folder.new).faults result }
 {
     let sources = read_sources(alloc, folder, names)?;
     let book = book_of(alloc, &sources)?;
@@ -74,11 +79,11 @@ fn owners_from<F: Folder>(
     scenario: &Scenario,
 ) -> Result<Owners, Stop>
     requires { IsWithinLimits scenario.now }
-    ensures told { (files : List StoredFile) → (F.told folder.old).files ≡ Some files →
-        Agrees (λ lines. lines) (F.told folder.old).steady (said_in files name.now scenario.now) result }
-    ensures files { (F.told folder.new).files ≡ (F.told folder.old).files }
-    ensures steady { (F.told folder.new).steady ≡ (F.told folder.old).steady }
-    ensures counted { CountsFault (F.told folder.old).faults (F.told folder.new).faults result }
+    ensures modelled { (files : List StoredFile) → (F.modelled folder.old).files ≡ Some files →
+        Agrees (λ lines. lines) (F.modelled folder.old).steady (owners_in files name.now scenario.now) result }
+    ensures files { (F.modelled folder.new).files ≡ (F.modelled folder.old).files }
+    ensures steady { (F.modelled folder.new).steady ≡ (F.modelled folder.old).steady }
+    ensures counted { CountsFault (F.modelled folder.old).faults (F.modelled folder.new).faults result }
 {
     let ids = ids_of(alloc, scenario)?;
     let falls = last_round(scenario) - 1;
@@ -91,20 +96,20 @@ fn owners_from<F: Folder>(
 }
 
 // Returns these inputs, with the owners' answers if an owners' file is named.
-fn with_said<F: Folder>(
+fn with_owners_file<F: Folder>(
     alloc: Global,
     folder: &mut F,
     name: Option<&str>,
     inputs: Inputs,
 ) -> Result<Inputs, Stop>
     requires { IsWithinLimits inputs.scenario }
-    ensures told { (files : List StoredFile) → (F.told folder.old).files ≡ Some files →
-        Agrees (λ i. i) (F.told folder.old).steady (with_said files (option_map (λ n. n.now) name.entry) inputs) result }
+    ensures modelled { (files : List StoredFile) → (F.modelled folder.old).files ≡ Some files →
+        Agrees (λ i. i) (F.modelled folder.old).steady (with_owners_file files (option_map (λ n. n.now) name.entry) inputs) result }
     ensures limits { IfOk result (λ i. IsWithinLimits i.scenario) }
     ensures stations { IfOk result (λ i. (i.book ≡ inputs.book) × (facilities i.scenario ≡ facilities inputs.scenario)) }
-    ensures files { (F.told folder.new).files ≡ (F.told folder.old).files }
-    ensures steady { (F.told folder.new).steady ≡ (F.told folder.old).steady }
-    ensures counted { CountsFault (F.told folder.old).faults (F.told folder.new).faults result }
+    ensures files { (F.modelled folder.new).files ≡ (F.modelled folder.old).files }
+    ensures steady { (F.modelled folder.new).steady ≡ (F.modelled folder.old).steady }
+    ensures counted { CountsFault (F.modelled folder.old).faults (F.modelled folder.new).faults result }
 {
     let Some(name) = name else {
         return Ok(inputs);
@@ -131,14 +136,14 @@ pub fn read_inputs<F: Folder>(
     names: &InputArgs<'_>,
 ) -> Result<Inputs, Stop>
     // The result is what the files hold.
-    ensures told { (files : List StoredFile) → (F.told folder.old).files ≡ Some files →
-        Agrees (λ i. i) (F.told folder.old).steady (inputs_of files (inputs_seen names.now)) result }
+    ensures modelled { (files : List StoredFile) → (F.modelled folder.old).files ≡ Some files →
+        Agrees (λ i. i) (F.modelled folder.old).steady (inputs_of files (inputs_view names.now)) result }
     ensures limits { IfOk result (λ i. IsWithinLimits i.scenario) }
     ensures stations { IfOk result (λ i. stations_of i.book ≡ facilities i.scenario) }
-    ensures files { (F.told folder.new).files ≡ (F.told folder.old).files }
-    ensures steady { (F.told folder.new).steady ≡ (F.told folder.old).steady }
-    ensures counted { CountsFault (F.told folder.old).faults (F.told folder.new).faults result }
+    ensures files { (F.modelled folder.new).files ≡ (F.modelled folder.old).files }
+    ensures steady { (F.modelled folder.new).steady ≡ (F.modelled folder.old).steady }
+    ensures counted { CountsFault (F.modelled folder.old).faults (F.modelled folder.new).faults result }
 {
     let inputs = read_valued(alloc, folder, names)?;
-    with_said(alloc, folder, names.owners, inputs)
+    with_owners_file(alloc, folder, names.owners, inputs)
 }

@@ -1,37 +1,39 @@
 //! The program's commands: each runs from its input files to its exit status, over any folder, any sink and any gate.
 //!
 //! This crate may call every crate below it. `auction_cmd` alone calls the commands, once it knows which one the words name.
-//! `auction_cli` uses a constant of `status`.
+//! `auction_cli` uses a constant of `status`. In reading order:
 //!
-//! Read `run` first: `inputs`, `sources`, `constraints` and `input_file` read its files, and its `conclude` stores and prints
-//! through `delivery`. The other commands are in `check`, `verify`, `resume`, `seek`, `batch`, `make`, `export` and `import`, and have
-//! the same shape. `verify`, `export` and `import` share `shown`, and the last two `settling`. `seek` uses `tops`, and `batch`
-//! uses `batch_inputs` and `batch_run`. `finish` and `status` define how a command ends. `says`, `explain`, `refusal` and `fault`
-//! print its messages.
+//! - `run`: runs an auction, stores its files and prints its summary. Every other command has the same shape.
+//! - `inputs`: reads the input files, with `input_file`, `sources`, `constraints` and `batch_inputs` in its folder.
+//! - `delivery`: stores the files of a command and prints its summary.
+//! - `finish`, `status`: how a command ends, and the exit statuses.
+//! - `messages`: prints messages, with `explain`, `refusal` and `fault` in its folder.
+//! - `check`: checks the inputs and runs nothing.
+//! - `shown`: reads a transcript and checks each of its steps. `verify`, `export` and `import` begin with it.
+//! - `verify`: prints the result that a transcript certifies, or its first invalid step.
+//! - `resume`: continues an auction from the beginning of its transcript.
+//! - `settling`: checks whether a step of a record can be exported or settled. `export` and `import` share it.
+//! - `export`, `import`: store the formula of an undecided test, and settle the test by a proof from outside.
+//! - `seek`, `top_channel_runs`: find the least top channel at which the stations that start on air fit, by a run for each top.
+//! - `batch`, `batch_run`: run the auctions of many scenarios over the same constraint files.
+//! - `make`: generates an auction.
 #![tactic(auto)]
 
 pub mod batch;
-mod batch_inputs;
 mod batch_run;
 pub mod check;
-mod constraints;
 mod delivery;
-pub mod explain;
 pub mod export;
-mod fault;
 pub mod finish;
 pub mod import;
-pub mod input_file;
 pub mod inputs;
 pub mod make;
-mod refusal;
+pub mod messages;
 pub mod resume;
 pub mod run;
-pub mod says;
 pub mod seek;
 mod settling;
 mod shown;
-mod sources;
 pub mod status;
-mod tops;
+mod top_channel_runs;
 pub mod verify;

@@ -8,20 +8,20 @@ ghost use Rattle.pack_defs.specs.Prices.{start_set};
 ghost use Rattle.pack_defs.specs.Scenario.{IsWithinLimits, facilities};
 ghost use Rattle.auction_core.specs.Backed.{undecided_of};
 ghost use Rattle.auction_core.specs.Setup.{IsOfAuction};
-ghost use Rattle.scenario_make.specs.declared.limits.TheConstants.{MOST_MADE};
+ghost use Rattle.scenario_make.specs.declared.limits.TheConstants.{MOST_GENERATED};
 ghost use Rattle.scenario_make.specs.Accepted.{AreAccepted};
 ghost use Rattle.commands.specs.Delivery.{AreAllStored, StopsAtOne};
 ghost use Rattle.commands.specs.Ends.{MakeEnds};
 ghost use Rattle.commands.specs.Faults.{AreFaultsCounted};
-ghost use Rattle.commands.specs.Made.{HasRun, input_texts_under, inputs_in};
+ghost use Rattle.commands.specs.Make.{HasRun, input_texts_under, inputs_in};
 ghost use Rattle.commands.specs.Outside.{outside};
 ghost use Rattle.commands.specs.Records.{IsRecordOf, summary_of};
-ghost use Rattle.command_words.specs.Words.{inputs_seen, make_seen};
+ghost use Rattle.command_words.specs.Words.{inputs_view, make_view};
 
 use crate::delivery::store_all;
-use crate::explain::starve;
 use crate::finish::Finish;
 use crate::inputs::Inputs;
+use crate::messages::explain::end_out_of_memory;
 use crate::run::{auction_of, done_status};
 use crate::status::UNWRITTEN;
 use auction_core::record::Record;
@@ -42,13 +42,13 @@ use std::thread::Threads;
 
 // A generated auction that was run.
 #[derive(Drop)]
-struct Carried {
+struct MakeResult {
     record: Record,
     summary: Vec<u8>,
 }
 
 // Returns the inputs that generated files hold. Fails only if memory runs out, since the readers accept these files.
-#[tactic(auto, unfolding(crate::specs::Made::inputs_in))]
+#[tactic(auto, unfolding(crate::specs::Make::inputs_in))]
 fn inputs_in(alloc: Global, made: &Made) -> Result<Inputs, NoMemory>
     requires { AreAccepted made.now.domains.items made.now.rows.items made.now.scenario.items }
     ensures held { IfOk result (λ i. inputs_in made.now.domains.items made.now.rows.items made.now.scenario.items ≡ Ok i) }
@@ -107,14 +107,14 @@ fn carry_out<G: Gate + Sync, W: Threads + Wait + Sync>(
     alloc: Global,
     made: &Made,
     gate: &G,
-) -> Result<Carried, NoMemory>
+) -> Result<MakeResult, NoMemory>
     requires { AreAccepted made.now.domains.items made.now.rows.items made.now.scenario.items }
     ensures { IfOk result (λ carried. HasRun (inputs_in made.now.domains.items made.now.rows.items made.now.scenario.items) carried.record carried.summary.items) }
 {
     let inputs = inputs_in(alloc, made)?;
     let record = record_of(rt, alloc, &inputs, gate)?;
     let summary = summary_of(alloc, &inputs, &record)?;
-    Ok(Carried { record, summary })
+    Ok(MakeResult { record, summary })
 }
 
 // Stores generated files under these names, in order. If one is not stored, a line says why, and the error is the status.
@@ -124,14 +124,14 @@ fn store_files<F: Folder, K: Sink>(
     names: &InputArgs<'_>,
     made: &Made,
 ) -> Result<(), u8>
-    ensures stored { OnOk result (AreAllStored (input_texts_under (inputs_seen names.now) made.now.domains.items made.now.rows.items made.now.scenario.items)
-        (outside (F.told folder.old) (K.told out.old)) (outside (F.told folder.new) (K.told out.new))) }
-    ensures uncounted { OnOk result ((F.told folder.new).faults ≡ (F.told folder.old).faults) }
-    ensures unsaid { OnOk result ((K.told out.new).faults ≡ (K.told out.old).faults) }
+    ensures stored { OnOk result (AreAllStored (input_texts_under (inputs_view names.now) made.now.domains.items made.now.rows.items made.now.scenario.items)
+        (outside (F.modelled folder.old) (K.modelled out.old)) (outside (F.modelled folder.new) (K.modelled out.new))) }
+    ensures faults_unchanged { OnOk result ((F.modelled folder.new).faults ≡ (F.modelled folder.old).faults) }
+    ensures sink_faults_unchanged { OnOk result ((K.modelled out.new).faults ≡ (K.modelled out.old).faults) }
     ensures counted { IfErr result (AreFaultsCounted
-        (outside (F.told folder.old) (K.told out.old)) (outside (F.told folder.new) (K.told out.new))) }
-    ensures stopped { IfErr result (StopsAtOne (input_texts_under (inputs_seen names.now) made.now.domains.items made.now.rows.items made.now.scenario.items)
-        (outside (F.told folder.old) (K.told out.old)) (outside (F.told folder.new) (K.told out.new))) }
+        (outside (F.modelled folder.old) (K.modelled out.old)) (outside (F.modelled folder.new) (K.modelled out.new))) }
+    ensures stopped { IfErr result (StopsAtOne (input_texts_under (inputs_view names.now) made.now.domains.items made.now.rows.items made.now.scenario.items)
+        (outside (F.modelled folder.old) (K.modelled out.old)) (outside (F.modelled folder.new) (K.modelled out.new))) }
 {
     let files = [
         NewFile {
@@ -163,22 +163,22 @@ pub fn make<F: Folder, K: Sink, G: Gate + Sync, W: Threads + Wait + Sync>(
     gate: &G,
 ) -> Finish
     requires some { 1 ≤ files.now.size }
-    requires most { files.now.size ≤ MOST_MADE }
-    ensures ends { MakeEnds (make_seen files.now)
-        (outside (F.told folder.old) (K.told out.old)) (outside (F.told folder.new) (K.told out.new)) result.status result.result }
+    requires most { files.now.size ≤ MOST_GENERATED }
+    ensures ends { MakeEnds (make_view files.now)
+        (outside (F.modelled folder.old) (K.modelled out.old)) (outside (F.modelled folder.new) (K.modelled out.new)) result.status result.result }
     ensures no_other { result.below ≡ None }
     ensures no_batch { result.batch ≡ [] }
     ensures counted { AreFaultsCounted
-        (outside (F.told folder.old) (K.told out.old)) (outside (F.told folder.new) (K.told out.new)) result.status }
+        (outside (F.modelled folder.old) (K.modelled out.old)) (outside (F.modelled folder.new) (K.modelled out.new)) result.status }
 {
     let Ok(made) = make_files(alloc, files.seed, files.size) else {
-        return starve(out);
+        return end_out_of_memory(out);
     };
     if let Err(status) = store_files(folder, out, &files.outputs, &made) {
         return Finish::without_record(status);
     }
     let Ok(carried) = carry_out(rt, alloc, &made, gate) else {
-        return starve(out);
+        return end_out_of_memory(out);
     };
     let done = done_status(&carried.record);
     match out.write(&carried.summary) {

@@ -12,15 +12,15 @@ ghost use Rattle.commands.specs.Faults.{AreFaultsCounted};
 ghost use Rattle.commands.specs.Outside.{outside};
 ghost use Rattle.commands.specs.Records.{IsEndedRecordIn};
 ghost use Rattle.commands.specs.ResumeEnds.{IsResumable, ResumeEnds};
-ghost use Rattle.commands.specs.Resumption.{GoesOnFrom, IsResumption, StandsBehind, begun, begun_by};
-ghost use Rattle.command_words.specs.Words.{resume_seen};
+ghost use Rattle.commands.specs.Resume.{ContinuesFrom, IsResumption, IsAfterPrefix, begun, kept_prefix};
+ghost use Rattle.command_words.specs.Words.{resume_view};
 
-use crate::explain::{explain, starve};
-use crate::fault::TranscriptFault;
 use crate::finish::Finish;
 use crate::inputs::{Inputs, read_inputs};
+use crate::messages::explain::{end_out_of_memory, explain};
+use crate::messages::fault::TranscriptFault;
 use crate::run::conclude;
-use crate::shown::{Denied, not_read, read_text, say_denied, say_unloaded};
+use crate::shown::{RecordErr, not_read, print_record_err, print_unloaded, read_text};
 use auction_core::auction::Auction;
 use auction_core::prefix::{Prefix, ResumeErr};
 use auction_core::record::Record;
@@ -32,38 +32,38 @@ use solver_gate::gate::Gate;
 use std::alloc::{AllocError as NoMemory, Global};
 use std::sync::Wait;
 use std::thread::Threads;
-use transcript_text::again::keeps_named_numbers;
 use transcript_text::reader::TranscriptReader;
+use transcript_text::round_trip::keeps_named_numbers;
 
 // The inputs, and their auction at the point where the beginning of its transcript ends.
 #[derive(Drop)]
-struct BegunAuction {
+struct ResumedAuction {
     inputs: Inputs,
     auction: Auction,
 }
 
 // Returns the auction at the point where what was kept of a transcript ends.
-fn auction_behind(alloc: Global, inputs: &Inputs, kept: Prefix) -> Result<Auction, Denied>
+fn auction_after_prefix(alloc: Global, inputs: &Inputs, kept: Prefix) -> Result<Auction, RecordErr>
     requires { IsOfAuction inputs.now.scenario inputs.now.book }
-    ensures { IsResumption inputs.now (begun_by inputs.now (Ok kept)) result }
+    ensures { IsResumption inputs.now (kept_prefix inputs.now (Ok kept)) result }
 {
     match Auction::resume(alloc, &inputs.scenario, &inputs.book, kept) {
         Ok(auction) => Ok(auction),
         Err(ResumeErr::NotShown { step, why }) => {
-            Err(Denied::Fault(TranscriptFault::Unshown { step, why }))
+            Err(RecordErr::Fault(TranscriptFault::Unshown { step, why }))
         }
-        Err(ResumeErr::NoMemory) => Err(Denied::NoMemory),
+        Err(ResumeErr::NoMemory) => Err(RecordErr::NoMemory),
     }
 }
 
 // Returns the auction at the point where the beginning of a transcript ends, from the reader of that beginning. Uses neither
 // folder nor sink.
-fn begun(alloc: Global, inputs: &Inputs, read: TranscriptReader) -> Result<Auction, Denied>
+fn begun(alloc: Global, inputs: &Inputs, read: TranscriptReader) -> Result<Auction, RecordErr>
     requires { IsOfAuction inputs.now.scenario inputs.now.book }
     ensures { (text : List ℕ) → HasRead inputs.now.scenario inputs.now.book text read → IsResumption inputs.now (begun inputs.now text) result }
 {
     match read.finish_prefix(&inputs.scenario, &inputs.book) {
-        Ok(kept) => auction_behind(alloc, inputs, kept),
+        Ok(kept) => auction_after_prefix(alloc, inputs, kept),
         Err(why) => Err(not_read(why)),
     }
 }
@@ -76,17 +76,17 @@ fn resumable<F: Folder, K: Sink>(
     files: &ResumeArgs<'_>,
     folder: &mut F,
     out: &mut K,
-) -> Result<BegunAuction, Finish>
-    ensures resumable { IfOk result (λ r. IsResumable (resume_seen files.now)
-        (outside (F.told folder.old) (K.told out.old)) r.inputs r.auction) }
+) -> Result<ResumedAuction, Finish>
+    ensures resumable { IfOk result (λ r. IsResumable (resume_view files.now)
+        (outside (F.modelled folder.old) (K.modelled out.old)) r.inputs r.auction) }
     ensures limits { IfOk result (λ r. IsOfAuction r.inputs.scenario r.inputs.book) }
-    ensures same { OnOk result (outside (F.told folder.new) (K.told out.new) ≡ outside (F.told folder.old) (K.told out.old)) }
-    ensures ends { IfErr result (λ finish. ResumeEnds (resume_seen files.now)
-        (outside (F.told folder.old) (K.told out.old)) (outside (F.told folder.new) (K.told out.new)) finish.status finish.result) }
+    ensures same { OnOk result (outside (F.modelled folder.new) (K.modelled out.new) ≡ outside (F.modelled folder.old) (K.modelled out.old)) }
+    ensures ends { IfErr result (λ finish. ResumeEnds (resume_view files.now)
+        (outside (F.modelled folder.old) (K.modelled out.old)) (outside (F.modelled folder.new) (K.modelled out.new)) finish.status finish.result) }
     ensures no_other { IfErr result (λ finish. finish.below ≡ None) }
     ensures no_batch { IfErr result (λ finish. finish.batch ≡ []) }
     ensures counted { IfErr result (λ finish. AreFaultsCounted
-        (outside (F.told folder.old) (K.told out.old)) (outside (F.told folder.new) (K.told out.new)) finish.status) }
+        (outside (F.modelled folder.old) (K.modelled out.old)) (outside (F.modelled folder.new) (K.modelled out.new)) finish.status) }
 {
     let names = files.run_files.inputs;
     let inputs = match read_inputs(alloc, folder, &names) {
@@ -95,17 +95,17 @@ fn resumable<F: Folder, K: Sink>(
     };
     let read = match read_text(alloc, folder, &inputs, files.prefix) {
         Ok(read) => read,
-        Err(why) => return Err(Finish::without_record(say_unloaded(out, files.prefix, why))),
+        Err(why) => return Err(Finish::without_record(print_unloaded(out, files.prefix, why))),
     };
     keeps_named_numbers(&inputs.scenario, &inputs.book);
     match begun(alloc, &inputs, read) {
-        Ok(auction) => Ok(BegunAuction { inputs, auction }),
-        Err(why) => Err(Finish::without_record(say_denied(out, files.prefix, why))),
+        Ok(auction) => Ok(ResumedAuction { inputs, auction }),
+        Err(why) => Err(Finish::without_record(print_record_err(out, files.prefix, why))),
     }
 }
 
 // Returns the record of this auction of the inputs, continued to its end. Uses the gate, and neither folder nor sink.
-fn carried_on<G: Gate + Sync, W: Threads + Wait + Sync>(
+fn finish_auction<G: Gate + Sync, W: Threads + Wait + Sync>(
     rt: &W,
     alloc: Global,
     inputs: &Inputs,
@@ -116,7 +116,7 @@ fn carried_on<G: Gate + Sync, W: Threads + Wait + Sync>(
     requires scenario { auction.scenario ≡ inputs.now.scenario }
     requires book { auction.book ≡ inputs.now.book }
     ensures ended { IfOk result (λ rec. IsEndedRecordIn rec.order inputs.now rec rec.ending) }
-    ensures goes_on { IfOk result (λ rec. (kept : Prefix) → StandsBehind inputs.now kept auction → GoesOnFrom kept rec) }
+    ensures continues { IfOk result (λ rec. (kept : Prefix) → IsAfterPrefix inputs.now kept auction → ContinuesFrom kept rec) }
 {
     inputs.book.keeps_order();
     let scenario = inputs.scenario.copy(alloc)?;
@@ -137,19 +137,19 @@ pub fn resume<F: Folder, K: Sink, G: Gate + Sync, W: Threads + Wait + Sync>(
     out: &mut K,
     gate: &G,
 ) -> Finish
-    ensures ends { ResumeEnds (resume_seen files.now)
-        (outside (F.told folder.old) (K.told out.old)) (outside (F.told folder.new) (K.told out.new)) result.status result.result }
+    ensures ends { ResumeEnds (resume_view files.now)
+        (outside (F.modelled folder.old) (K.modelled out.old)) (outside (F.modelled folder.new) (K.modelled out.new)) result.status result.result }
     ensures no_other { result.below ≡ None }
     ensures no_batch { result.batch ≡ [] }
     ensures counted { AreFaultsCounted
-        (outside (F.told folder.old) (K.told out.old)) (outside (F.told folder.new) (K.told out.new)) result.status }
+        (outside (F.modelled folder.old) (K.modelled out.old)) (outside (F.modelled folder.new) (K.modelled out.new)) result.status }
 {
-    let BegunAuction { inputs, auction } = match resumable(alloc, files, folder, out) {
+    let ResumedAuction { inputs, auction } = match resumable(alloc, files, folder, out) {
         Ok(found) => found,
         Err(finish) => return finish,
     };
-    let Ok(rec) = carried_on(rt, alloc, &inputs, auction, gate) else {
-        return starve(out);
+    let Ok(rec) = finish_auction(rt, alloc, &inputs, auction, gate) else {
+        return end_out_of_memory(out);
     };
     conclude(alloc, &inputs, rec, &files.run_files, folder, out)
 }

@@ -1,7 +1,7 @@
 //! The command `run`: runs an auction from its input files to its result.
 //!
 //! Only `auction_cmd` calls `run`, for `live` too. Other commands use its parts: `resume` concludes an auction with `conclude`,
-//! and `make` and `tops` run one with `auction_of`.
+//! and `make` and `top_channel_runs` run one with `auction_of`.
 
 ghost use Rattle.std.specs.Prelude.{◌≡◌, [], IfOk, None};
 ghost use Rattle.std.specs.List.{list_any};
@@ -10,17 +10,17 @@ ghost use Rattle.auction_core.specs.Backed.{is_undecided, undecided_of};
 ghost use Rattle.auction_core.specs.Setup.{IsOfAuction};
 ghost use Rattle.result_text.specs.ChannelsText.{channels_text};
 ghost use Rattle.transcript_text.specs.Spelling.{transcript_text};
-ghost use Rattle.commands.specs.Ends.{ConcludesUnlessStarved, RunEnds};
+ghost use Rattle.commands.specs.Ends.{ConcludesUnlessOutOfMemory, RunEnds};
 ghost use Rattle.commands.specs.Faults.{AreFaultsCounted};
 ghost use Rattle.commands.specs.Outside.{outside};
 ghost use Rattle.commands.specs.Records.{IsEndedRecordIn, IsRecordBy, IsRecordIn, done_status, result_of, run_order, summary_in};
-ghost use Rattle.command_words.specs.Words.{names_seen};
+ghost use Rattle.command_words.specs.Words.{run_names_view};
 
 use crate::delivery::deliver;
-use crate::explain::{explain, starve};
 use crate::finish::Finish;
 use crate::inputs::{Inputs, read_inputs};
-use crate::says::say;
+use crate::messages::explain::{end_out_of_memory, explain};
+use crate::messages::print_line;
 use crate::status::{DONE, LEFT_OPEN, START_OPEN, START_UNFIT};
 use auction_core::record::{Ending, Record, Shown, Step};
 use command_words::run_words::RunArgs;
@@ -34,7 +34,7 @@ use solver_gate::gate::Gate;
 use std::alloc::{AllocError as NoMemory, Global};
 use std::sync::Wait;
 use std::thread::Threads;
-use transcript_text::again::{keeps_ascending_fits, keeps_named_numbers};
+use transcript_text::round_trip::{keeps_ascending_fits, keeps_named_numbers};
 use transcript_text::write::write_transcript;
 
 // The texts of an auction that did not end at its start.
@@ -124,26 +124,26 @@ pub fn conclude<F: Folder, K: Sink>(
 ) -> Finish
     requires limits { IsWithinLimits inputs.now.scenario }
     requires of { IsEndedRecordIn rec.order inputs.now rec rec.ending }
-    ensures ends { ConcludesUnlessStarved rec.order (names_seen names.now) inputs.now rec
-        (outside (F.told folder.old) (K.told out.old)) (outside (F.told folder.new) (K.told out.new)) result.status result.result }
+    ensures ends { ConcludesUnlessOutOfMemory rec.order (run_names_view names.now) inputs.now rec
+        (outside (F.modelled folder.old) (K.modelled out.old)) (outside (F.modelled folder.new) (K.modelled out.new)) result.status result.result }
     ensures no_other { result.below ≡ None }
     ensures no_batch { result.batch ≡ [] }
     ensures counted { AreFaultsCounted
-        (outside (F.told folder.old) (K.told out.old)) (outside (F.told folder.new) (K.told out.new)) result.status }
+        (outside (F.modelled folder.old) (K.modelled out.old)) (outside (F.modelled folder.new) (K.modelled out.new)) result.status }
 {
     match rec.ending {
         Ending::Done => {}
         Ending::StartRefuted => {
-            say(out, &["the start set does not fit\n"]);
+            print_line(out, &["the start set does not fit\n"]);
             return Finish::with_record(START_UNFIT, rec);
         }
         Ending::StartUndecided => {
-            say(out, &["the start set is undecided\n"]);
+            print_line(out, &["the start set is undecided\n"]);
             return Finish::with_record(START_OPEN, rec);
         }
     }
     let Ok(texts) = texts_of(alloc, inputs, &rec) else {
-        return starve(out);
+        return end_out_of_memory(out);
     };
     keeps_named_numbers(&inputs.scenario, &inputs.book);
     keeps_ascending_fits(&rec);
@@ -179,19 +179,19 @@ pub fn run<F: Folder, K: Sink, G: Gate + Sync, W: Threads + Wait + Sync>(
     out: &mut K,
     gate: &G,
 ) -> Finish
-    ensures ends { RunEnds run_order (names_seen files.now)
-        (outside (F.told folder.old) (K.told out.old)) (outside (F.told folder.new) (K.told out.new)) result.status result.result }
+    ensures ends { RunEnds run_order (run_names_view files.now)
+        (outside (F.modelled folder.old) (K.modelled out.old)) (outside (F.modelled folder.new) (K.modelled out.new)) result.status result.result }
     ensures no_other { result.below ≡ None }
     ensures no_batch { result.batch ≡ [] }
     ensures counted { AreFaultsCounted
-        (outside (F.told folder.old) (K.told out.old)) (outside (F.told folder.new) (K.told out.new)) result.status }
+        (outside (F.modelled folder.old) (K.modelled out.old)) (outside (F.modelled folder.new) (K.modelled out.new)) result.status }
 {
     let inputs = match read_inputs(alloc, folder, &files.inputs) {
         Ok(inputs) => inputs,
         Err(stop) => return Finish::without_record(explain(out, &files.inputs, stop)),
     };
     let Ok(record) = auction_of(rt, alloc, &inputs, gate) else {
-        return starve(out);
+        return end_out_of_memory(out);
     };
     conclude(alloc, &inputs, record, files, folder, out)
 }

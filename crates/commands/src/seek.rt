@@ -1,6 +1,6 @@
 //! The command `seek`: finds the least top channel at which the stations that start on air fit, and a channel for each of them.
 //!
-//! `sources` reads the files, and `tops` tests the top channels. Only `auction_cmd` calls it.
+//! `sources` reads the files, and `top_channel_runs` tests the top channels. Only `auction_cmd` calls it.
 
 ghost use Rattle.std.specs.Prelude.{◌≡◌, ◌≤◌, [], List, Some, IfOk};
 ghost use Rattle.outside_io.specs.Files.{StoredFile};
@@ -10,16 +10,16 @@ ghost use Rattle.commands.specs.Faults.{AreFaultsCounted};
 ghost use Rattle.commands.specs.Inputs.{Agrees, CountsFault};
 ghost use Rattle.commands.specs.Outside.{outside};
 ghost use Rattle.commands.specs.Seek.{IsSeekable, base_of, seekable_of, top_status, top_text};
-ghost use Rattle.command_words.specs.Words.{inputs_seen, seek_seen};
+ghost use Rattle.command_words.specs.Words.{inputs_view, seek_view};
 
 use crate::delivery::deliver;
-use crate::explain::{explain, starve};
 use crate::finish::Finish;
-use crate::input_file::Stop;
-use crate::says::say;
-use crate::sources::{Sources, book_of, read_sources};
+use crate::inputs::input_file::Stop;
+use crate::inputs::sources::{Sources, book_of, read_sources};
+use crate::messages::explain::{end_out_of_memory, explain};
+use crate::messages::print_line;
 use crate::status::{DONE, LEFT_OPEN, START_OPEN, START_UNFIT};
-use crate::tops::{FoundTop, LeastTop, least_top};
+use crate::top_channel_runs::{FoundTop, LeastTop, least_top};
 use auction_core::record::Record;
 use command_words::run_words::InputArgs;
 use command_words::seek_words::SeekArgs;
@@ -46,12 +46,12 @@ fn read_seekable<F: Folder>(
     folder: &mut F,
     names: &InputArgs<'_>,
 ) -> Result<Sources, Stop>
-    ensures told { (files : List StoredFile) → (F.told folder.old).files ≡ Some files →
-        Agrees (λ s. s) (F.told folder.old).steady (seekable_of files (inputs_seen names.now)) result }
+    ensures modelled { (files : List StoredFile) → (F.modelled folder.old).files ≡ Some files →
+        Agrees (λ s. s) (F.modelled folder.old).steady (seekable_of files (inputs_view names.now)) result }
     ensures seekable { IfOk result (λ s. IsSeekable (base_of s)) }
-    ensures files { (F.told folder.new).files ≡ (F.told folder.old).files }
-    ensures steady { (F.told folder.new).steady ≡ (F.told folder.old).steady }
-    ensures counted { CountsFault (F.told folder.old).faults (F.told folder.new).faults result }
+    ensures files { (F.modelled folder.new).files ≡ (F.modelled folder.old).files }
+    ensures steady { (F.modelled folder.new).steady ≡ (F.modelled folder.old).steady }
+    ensures counted { CountsFault (F.modelled folder.old).faults (F.modelled folder.new).faults result }
 {
     let sources = read_sources(alloc, folder, names)?;
     let _ = book_of(alloc, &sources)?;
@@ -110,11 +110,11 @@ pub fn seek<F: Folder, K: Sink, G: Gate + Sync, W: Threads + Wait + Sync>(
     out: &mut K,
     gate: &G,
 ) -> Finish
-    ensures ends { SeekEnds (seek_seen files.now) (outside (F.told folder.old) (K.told out.old))
-        (outside (F.told folder.new) (K.told out.new)) result.status result.result result.below }
+    ensures ends { SeekEnds (seek_view files.now) (outside (F.modelled folder.old) (K.modelled out.old))
+        (outside (F.modelled folder.new) (K.modelled out.new)) result.status result.result result.below }
     ensures no_batch { result.batch ≡ [] }
     ensures counted { AreFaultsCounted
-        (outside (F.told folder.old) (K.told out.old)) (outside (F.told folder.new) (K.told out.new)) result.status }
+        (outside (F.modelled folder.old) (K.modelled out.old)) (outside (F.modelled folder.new) (K.modelled out.new)) result.status }
 {
     let names = files.inputs();
     let sources = match read_seekable(alloc, folder, &names) {
@@ -122,7 +122,7 @@ pub fn seek<F: Folder, K: Sink, G: Gate + Sync, W: Threads + Wait + Sync>(
         Err(stop) => return Finish::without_record(explain(out, &names, stop)),
     };
     let Ok(found) = least_top(rt, alloc, sources, gate) else {
-        return starve(out);
+        return end_out_of_memory(out);
     };
     let LeastTop {
         top,
@@ -131,17 +131,17 @@ pub fn seek<F: Folder, K: Sink, G: Gate + Sync, W: Threads + Wait + Sync>(
         is_open,
     } = match found {
         FoundTop::NoneFits(rec) => {
-            say(out, &["the start set does not fit\n"]);
+            print_line(out, &["the start set does not fit\n"]);
             return Finish::with_record(START_UNFIT, rec);
         }
         FoundTop::LastOpen(rec) => {
-            say(out, &["the start set is undecided\n"]);
+            print_line(out, &["the start set is undecided\n"]);
             return Finish::with_record(START_OPEN, rec);
         }
         FoundTop::Found(found) => found,
     };
     let Ok(texts) = texts_of(alloc, &rec, top, is_open) else {
-        return starve(out);
+        return end_out_of_memory(out);
     };
     let stored = [NewFile {
         name: files.channels,

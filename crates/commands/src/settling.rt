@@ -3,16 +3,16 @@
 //! `export` and `import` use it.
 
 ghost use Rattle.std.specs.Prelude.{◌≡◌, ◌≤◌, ◌++◌, option_map};
-ghost use Rattle.commands.specs.Outside.{IsSaidTo};
+ghost use Rattle.commands.specs.Outside.{IsLinePrintedTo};
 ghost use Rattle.commands.specs.Settling.{unsettled_line, missing_fault, open_fault, step_line, step_why, unlogged_text};
-ghost use Rattle.open_tests.specs.Queries.{step_numbered};
+ghost use Rattle.undecided_tests.specs.Queries.{step_numbered};
 
-use crate::says::{say, say_at};
+use crate::messages::{print_line, print_line_at};
 use auction_core::record::{Record, Shown, Step};
 use itoa::Buffer;
 use lrat_text::LratErr;
-use open_tests::settle::SettleErr;
 use outside_io::sink::Sink;
+use undecided_tests::settle::SettleErr;
 
 /// Why a step is not exported or settled.
 #[derive(Clone, Copy, Debug, PartialEq, Eq)]
@@ -66,37 +66,37 @@ fn step_why(fault: StepFault) -> &'static str
 }
 
 /// Prints why the step of this number is not exported or settled. Allocates no memory.
-pub fn say_step<K: Sink>(out: &mut K, step: u32, fault: StepFault)
-    ensures says { IsSaidTo (K.told out.old) (K.told out.new) (step_line step fault) }
-    ensures counted { (K.told out.old).faults ≤ (K.told out.new).faults }
+pub fn print_step_fault<K: Sink>(out: &mut K, step: u32, fault: StepFault)
+    ensures says { IsLinePrintedTo (K.modelled out.old) (K.modelled out.new) (step_line step fault) }
+    ensures counted { (K.modelled out.old).faults ≤ (K.modelled out.new).faults }
 {
     let mut number = Buffer::new();
-    say(out, &["step ", number.format(step), step_why(fault)]);
+    print_line(out, &["step ", number.format(step), step_why(fault)]);
 }
 
 // Prints why the text of this name is not a log.
 #[tactic(auto, unfolding(crate::specs::Settling::unlogged_text))]
-fn say_unread<K: Sink>(out: &mut K, name: &str, why: LratErr)
-    ensures says { IsSaidTo (K.told out.old) (K.told out.new) (name.now ++ unlogged_text why) }
-    ensures counted { (K.told out.old).faults ≤ (K.told out.new).faults }
+fn print_unread<K: Sink>(out: &mut K, name: &str, why: LratErr)
+    ensures says { IsLinePrintedTo (K.modelled out.old) (K.modelled out.new) (name.now ++ unlogged_text why) }
+    ensures counted { (K.modelled out.old).faults ≤ (K.modelled out.new).faults }
 {
     match why {
-        LratErr::Truncated => say(out, &[name, ": truncated\n"]),
-        LratErr::BadLine { n } => say_at(out, name, ": line ", n, ": bad line\n"),
-        LratErr::RatStep { n } => say_at(out, name, ": line ", n, ": RAT step\n"),
-        LratErr::NoMemory => say(out, &[name, ": out of memory\n"]),
+        LratErr::Truncated => print_line(out, &[name, ": truncated\n"]),
+        LratErr::BadLine { n } => print_line_at(out, name, ": line ", n, ": bad line\n"),
+        LratErr::RatStep { n } => print_line_at(out, name, ": line ", n, ": RAT step\n"),
+        LratErr::NoMemory => print_line(out, &[name, ": out of memory\n"]),
     }
 }
 
 /// Prints why the log of this name does not settle the step. Allocates no memory.
 #[tactic(auto, unfolding(crate::specs::Settling::log_why))]
-pub fn say_log<K: Sink>(out: &mut K, name: &str, fault: SettleErr)
-    ensures says { IsSaidTo (K.told out.old) (K.told out.new) (unsettled_line name.now fault) }
-    ensures counted { (K.told out.old).faults ≤ (K.told out.new).faults }
+pub fn print_log_fault<K: Sink>(out: &mut K, name: &str, fault: SettleErr)
+    ensures says { IsLinePrintedTo (K.modelled out.old) (K.modelled out.new) (unsettled_line name.now fault) }
+    ensures counted { (K.modelled out.old).faults ≤ (K.modelled out.new).faults }
 {
     match fault {
-        SettleErr::Unread(why) => say_unread(out, name, why),
-        SettleErr::NoRefutation => say(out, &[name, ": not a refutation\n"]),
-        SettleErr::NoMemory => say(out, &[name, ": out of memory\n"]),
+        SettleErr::Unread(why) => print_unread(out, name, why),
+        SettleErr::NoRefutation => print_line(out, &[name, ": not a refutation\n"]),
+        SettleErr::NoMemory => print_line(out, &[name, ": out of memory\n"]),
     }
 }

@@ -1,6 +1,6 @@
 //! Reads the inputs and a transcript, checks each of its steps, and returns the record that the transcript certifies.
 //!
-//! `verify`, `export` and `import` begin with `shown_by`. `resume` uses `read_text` and the messages.
+//! `verify`, `export` and `import` begin with `read_verified`. `resume` uses `read_text` and the messages.
 
 ghost use Rattle.std.specs.Prelude.{◌≡◌, ◌≢◌, ◌⊎◌, ◌<◌, ◌≤◌, ◌+◌, [], ℕ, IfErr, IfOk, List, None, Some, Ok, Err, OnOk};
 ghost use Rattle.outside_io.specs.Pieces.{piece_size};
@@ -11,16 +11,16 @@ ghost use Rattle.commands.specs.Ends.{IsShown, VerifyEnds};
 ghost use Rattle.commands.specs.Faults.{AreFaultsCounted};
 ghost use Rattle.commands.specs.Inputs.{transcript_limit};
 ghost use Rattle.commands.specs.Outside.{outside};
-ghost use Rattle.commands.specs.Transcripts.{ExplainsDenied, ExplainsLoad, IsFileRead, IsTextRead, IsVerdict, not_read};
+ghost use Rattle.commands.specs.Shown.{ExplainsRecordErr, ExplainsLoad, IsFileRead, IsTextRead, IsVerdict, not_read};
 ghost use Rattle.commands.specs.Verified.{record_by, verified};
-ghost use Rattle.command_words.specs.Words.{verify_seen};
+ghost use Rattle.command_words.specs.Words.{verify_view};
 
-use crate::explain::{explain, say_memory};
-use crate::fault::{TranscriptFault, say_fault};
 use crate::finish::Finish;
-use crate::input_file::{FILE_LIMIT, TRANSCRIPT_LIMIT};
+use crate::inputs::input_file::{FILE_LIMIT, TRANSCRIPT_LIMIT};
 use crate::inputs::{Inputs, read_inputs};
-use crate::says::say;
+use crate::messages::explain::{explain, print_out_of_memory};
+use crate::messages::fault::{TranscriptFault, print_fault};
+use crate::messages::print_line;
 use crate::status::{NO_MEMORY, NOT_SHOWN, REFUSED, UNREAD};
 use auction_core::record::Record;
 use auction_core::transcript::Transcript;
@@ -31,8 +31,8 @@ use std::alloc::Global;
 use transcript_check::VerifyErr;
 use transcript_check::verify::verify as check_transcript;
 use transcript_text::TextErr;
-use transcript_text::again::keeps_named_numbers;
 use transcript_text::reader::TranscriptReader;
+use transcript_text::round_trip::keeps_named_numbers;
 
 /// The inputs, and the record that a transcript of their auction certifies.
 #[derive(Drop)]
@@ -42,7 +42,7 @@ pub struct ShownAuction {
 }
 
 // Why a transcript has no record.
-pub enum Denied {
+pub enum RecordErr {
     // The transcript is rejected.
     Fault(TranscriptFault),
     // Memory ran out.
@@ -66,12 +66,12 @@ pub(crate) fn read_text<F: Folder>(
     name: &str,
 ) -> Result<TranscriptReader, LoadErr>
     requires { IsWithinLimits inputs.now.scenario }
-    ensures read { IsTextRead inputs.now (F.told folder.old).files (F.told folder.old).steady
-        (F.told folder.old).faults (F.told folder.new).faults (F.come folder.new) name.now result }
-    ensures files { (F.told folder.new).files ≡ (F.told folder.old).files }
-    ensures steady { (F.told folder.new).steady ≡ (F.told folder.old).steady }
-    ensures counted { (F.told folder.old).faults ≤ (F.told folder.new).faults }
-    ensures uncounted { result ≢ Err LoadErr.Failed → (F.told folder.new).faults ≡ (F.told folder.old).faults }
+    ensures read { IsTextRead inputs.now (F.modelled folder.old).files (F.modelled folder.old).steady
+        (F.modelled folder.old).faults (F.modelled folder.new).faults (F.come folder.new) name.now result }
+    ensures files { (F.modelled folder.new).files ≡ (F.modelled folder.old).files }
+    ensures steady { (F.modelled folder.new).steady ≡ (F.modelled folder.old).steady }
+    ensures counted { (F.modelled folder.old).faults ≤ (F.modelled folder.new).faults }
+    ensures faults_unchanged { result ≢ Err LoadErr.Failed → (F.modelled folder.new).faults ≡ (F.modelled folder.old).faults }
     // Whatever the folder tells: the file was read to its end, and is too long by its length or at a piece near the limit.
     ensures ended { OnOk result (F.left folder.new ≡ Some []) }
     ensures within { OnOk result (F.come folder.new ≤ transcript_limit) }
@@ -100,12 +100,12 @@ pub(crate) fn file_bytes<F: Folder>(
     folder: &mut F,
     name: &str,
 ) -> Result<Vec<u8>, LoadErr>
-    ensures read { IsFileRead (F.told folder.old).files (F.told folder.old).steady
-        (F.told folder.old).faults (F.told folder.new).faults name.now result }
-    ensures files { (F.told folder.new).files ≡ (F.told folder.old).files }
-    ensures steady { (F.told folder.new).steady ≡ (F.told folder.old).steady }
-    ensures counted { (F.told folder.old).faults ≤ (F.told folder.new).faults }
-    ensures uncounted { result ≢ Err LoadErr.Failed → (F.told folder.new).faults ≡ (F.told folder.old).faults }
+    ensures read { IsFileRead (F.modelled folder.old).files (F.modelled folder.old).steady
+        (F.modelled folder.old).faults (F.modelled folder.new).faults name.now result }
+    ensures files { (F.modelled folder.new).files ≡ (F.modelled folder.old).files }
+    ensures steady { (F.modelled folder.new).steady ≡ (F.modelled folder.old).steady }
+    ensures counted { (F.modelled folder.old).faults ≤ (F.modelled folder.new).faults }
+    ensures faults_unchanged { result ≢ Err LoadErr.Failed → (F.modelled folder.new).faults ≡ (F.modelled folder.old).faults }
 {
     let mut bytes = Vec::new(alloc);
     folder.load(name, FILE_LIMIT, &mut bytes)?;
@@ -114,28 +114,28 @@ pub(crate) fn file_bytes<F: Folder>(
 
 /// Prints why the file of this name was not loaded, and returns the status for it: `UNREAD`, `REFUSED` or `NO_MEMORY`. Allocates
 /// no memory.
-pub fn say_unloaded<K: Sink>(out: &mut K, name: &str, why: LoadErr) -> u8
+pub fn print_unloaded<K: Sink>(out: &mut K, name: &str, why: LoadErr) -> u8
     ensures { ExplainsLoad name.now why
-        (K.told out.old).held (K.told out.new).held (K.told out.old).faults (K.told out.new).faults result }
+        (K.modelled out.old).held (K.modelled out.new).held (K.modelled out.old).faults (K.modelled out.new).faults result }
 {
     match why {
         LoadErr::Failed => {
-            say(out, &["cannot read ", name, "\n"]);
+            print_line(out, &["cannot read ", name, "\n"]);
             UNREAD
         }
         LoadErr::TooLong => {
-            say(out, &[name, ": too long\n"]);
+            print_line(out, &[name, ": too long\n"]);
             REFUSED
         }
         LoadErr::NoMemory => {
-            say_memory(out);
+            print_out_of_memory(out);
             NO_MEMORY
         }
     }
 }
 
 // Returns the record that a transcript certifies, if each of its steps can be verified.
-fn record_from(alloc: Global, inputs: &Inputs, transcript: Transcript) -> Result<Record, Denied>
+fn record_from(alloc: Global, inputs: &Inputs, transcript: Transcript) -> Result<Record, RecordErr>
     requires { IsOfAuction inputs.now.scenario inputs.now.book }
     ensures { IsVerdict inputs.now (record_by inputs.now (Ok transcript)) result }
 {
@@ -143,26 +143,26 @@ fn record_from(alloc: Global, inputs: &Inputs, transcript: Transcript) -> Result
     match check_transcript(alloc, &inputs.book, &inputs.scenario, transcript) {
         Ok(record) => Ok(record),
         Err(VerifyErr::NotShown { step, why }) => {
-            Err(Denied::Fault(TranscriptFault::Unshown { step, why }))
+            Err(RecordErr::Fault(TranscriptFault::Unshown { step, why }))
         }
-        Err(VerifyErr::NoMemory) => Err(Denied::NoMemory),
+        Err(VerifyErr::NoMemory) => Err(RecordErr::NoMemory),
     }
 }
 
 /// Returns why there is no record, for this error in the reading of a transcript's text.
-pub(crate) fn not_read(why: TextErr) -> Denied
+pub(crate) fn not_read(why: TextErr) -> RecordErr
     ensures { result ≡ not_read why }
 {
     match why {
-        TextErr::Version => Denied::Fault(TranscriptFault::Unread(TextErr::Version)),
-        TextErr::BadLine { n } => Denied::Fault(TranscriptFault::Unread(TextErr::BadLine { n })),
-        TextErr::Truncated => Denied::Fault(TranscriptFault::Unread(TextErr::Truncated)),
-        TextErr::NoMemory => Denied::NoMemory,
+        TextErr::Version => RecordErr::Fault(TranscriptFault::Unread(TextErr::Version)),
+        TextErr::BadLine { n } => RecordErr::Fault(TranscriptFault::Unread(TextErr::BadLine { n })),
+        TextErr::Truncated => RecordErr::Fault(TranscriptFault::Unread(TextErr::Truncated)),
+        TextErr::NoMemory => RecordErr::NoMemory,
     }
 }
 
 // Returns the record that a transcript certifies, from the reader of its text. Uses neither folder nor sink.
-fn record_of(alloc: Global, inputs: &Inputs, read: TranscriptReader) -> Result<Record, Denied>
+fn record_of(alloc: Global, inputs: &Inputs, read: TranscriptReader) -> Result<Record, RecordErr>
     requires { IsOfAuction inputs.now.scenario inputs.now.book }
     ensures { (text : List ℕ) → HasRead inputs.now.scenario inputs.now.book text read → IsVerdict inputs.now (verified inputs.now text) result }
 {
@@ -173,17 +173,17 @@ fn record_of(alloc: Global, inputs: &Inputs, read: TranscriptReader) -> Result<R
 }
 
 /// Prints why the transcript of this name has no record, and returns the status for it: `NOT_SHOWN` or `NO_MEMORY`.
-pub(crate) fn say_denied<K: Sink>(out: &mut K, name: &str, why: Denied) -> u8
-    ensures { ExplainsDenied name.now why
-        (K.told out.old).held (K.told out.new).held (K.told out.old).faults (K.told out.new).faults result }
+pub(crate) fn print_record_err<K: Sink>(out: &mut K, name: &str, why: RecordErr) -> u8
+    ensures { ExplainsRecordErr name.now why
+        (K.modelled out.old).held (K.modelled out.new).held (K.modelled out.old).faults (K.modelled out.new).faults result }
 {
     match why {
-        Denied::Fault(fault) => {
-            say_fault(out, name, fault);
+        RecordErr::Fault(fault) => {
+            print_fault(out, name, fault);
             NOT_SHOWN
         }
-        Denied::NoMemory => {
-            say_memory(out);
+        RecordErr::NoMemory => {
+            print_out_of_memory(out);
             NO_MEMORY
         }
     }
@@ -197,23 +197,23 @@ pub(crate) fn say_denied<K: Sink>(out: &mut K, name: &str, why: Denied) -> u8
 ///
 /// The error is how the program ends, without a record. A file cannot be read or is rejected, a step cannot be verified, or
 /// memory ran out. A line on the sink says why.
-pub fn shown_by<F: Folder, K: Sink>(
+pub fn read_verified<F: Folder, K: Sink>(
     alloc: Global,
     files: &VerifyArgs<'_>,
     folder: &mut F,
     out: &mut K,
 ) -> Result<ShownAuction, Finish>
-    ensures shown { IfOk result (λ s. IsShown (verify_seen files.now)
-        (outside (F.told folder.old) (K.told out.old)) s.inputs s.record) }
+    ensures shown { IfOk result (λ s. IsShown (verify_view files.now)
+        (outside (F.modelled folder.old) (K.modelled out.old)) s.inputs s.record) }
     ensures limits { IfOk result (λ s. IsOfAuction s.inputs.scenario s.inputs.book) }
-    ensures same { OnOk result (outside (F.told folder.new) (K.told out.new) ≡ outside (F.told folder.old) (K.told out.old)) }
-    ensures ends { IfErr result (λ finish. VerifyEnds (verify_seen files.now)
-        (outside (F.told folder.old) (K.told out.old)) (outside (F.told folder.new) (K.told out.new)) finish.status finish.result) }
+    ensures same { OnOk result (outside (F.modelled folder.new) (K.modelled out.new) ≡ outside (F.modelled folder.old) (K.modelled out.old)) }
+    ensures ends { IfErr result (λ finish. VerifyEnds (verify_view files.now)
+        (outside (F.modelled folder.old) (K.modelled out.old)) (outside (F.modelled folder.new) (K.modelled out.new)) finish.status finish.result) }
     ensures none { IfErr result (λ finish. finish.result ≡ None) }
     ensures no_other { IfErr result (λ finish. finish.below ≡ None) }
     ensures no_batch { IfErr result (λ finish. finish.batch ≡ []) }
     ensures counted { IfErr result (λ finish. AreFaultsCounted
-        (outside (F.told folder.old) (K.told out.old)) (outside (F.told folder.new) (K.told out.new)) finish.status) }
+        (outside (F.modelled folder.old) (K.modelled out.old)) (outside (F.modelled folder.new) (K.modelled out.new)) finish.status) }
 {
     let inputs = match read_inputs(alloc, folder, &files.inputs) {
         Ok(inputs) => inputs,
@@ -221,11 +221,11 @@ pub fn shown_by<F: Folder, K: Sink>(
     };
     let read = match read_text(alloc, folder, &inputs, files.transcript) {
         Ok(read) => read,
-        Err(why) => return Err(Finish::without_record(say_unloaded(out, files.transcript, why))),
+        Err(why) => return Err(Finish::without_record(print_unloaded(out, files.transcript, why))),
     };
     keeps_named_numbers(&inputs.scenario, &inputs.book);
     match record_of(alloc, &inputs, read) {
         Ok(record) => Ok(ShownAuction { inputs, record }),
-        Err(why) => Err(Finish::without_record(say_denied(out, files.transcript, why))),
+        Err(why) => Err(Finish::without_record(print_record_err(out, files.transcript, why))),
     }
 }

@@ -10,13 +10,13 @@ ghost use Rattle.commands.specs.Ends.{VerifyEnds};
 ghost use Rattle.commands.specs.Faults.{AreFaultsCounted};
 ghost use Rattle.commands.specs.Outside.{outside};
 ghost use Rattle.commands.specs.Records.{IsRecordIn, result_of};
-ghost use Rattle.command_words.specs.Words.{verify_seen};
+ghost use Rattle.command_words.specs.Words.{verify_view};
 
-use crate::explain::starve;
 use crate::finish::Finish;
 use crate::inputs::Inputs;
+use crate::messages::explain::end_out_of_memory;
 use crate::run::done_status;
-use crate::shown::{ShownAuction, shown_by};
+use crate::shown::{ShownAuction, read_verified};
 use crate::status::UNWRITTEN;
 use auction_core::record::Record;
 use command_words::run_words::VerifyArgs;
@@ -47,19 +47,19 @@ pub fn verify<F: Folder, K: Sink>(
     folder: &mut F,
     out: &mut K,
 ) -> Finish
-    ensures ends { VerifyEnds (verify_seen files.now)
-        (outside (F.told folder.old) (K.told out.old)) (outside (F.told folder.new) (K.told out.new)) result.status result.result }
+    ensures ends { VerifyEnds (verify_view files.now)
+        (outside (F.modelled folder.old) (K.modelled out.old)) (outside (F.modelled folder.new) (K.modelled out.new)) result.status result.result }
     ensures no_other { result.below ≡ None }
     ensures no_batch { result.batch ≡ [] }
     ensures counted { AreFaultsCounted
-        (outside (F.told folder.old) (K.told out.old)) (outside (F.told folder.new) (K.told out.new)) result.status }
+        (outside (F.modelled folder.old) (K.modelled out.old)) (outside (F.modelled folder.new) (K.modelled out.new)) result.status }
 {
-    let ShownAuction { inputs, record } = match shown_by(alloc, files, folder, out) {
+    let ShownAuction { inputs, record } = match read_verified(alloc, files, folder, out) {
         Ok(shown) => shown,
         Err(finish) => return finish,
     };
     let Ok(result) = result_text(alloc, &inputs, &record) else {
-        return starve(out);
+        return end_out_of_memory(out);
     };
     let done = done_status(&record);
     match out.write(&result) {

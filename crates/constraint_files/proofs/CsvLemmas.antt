@@ -8,8 +8,8 @@ use Rattle.csv.specs.Machine.{Read, next_record, ends_at_end, in_field, is_end, 
 use Rattle.csv.specs.Reading.{default_config, records, records_from, records_next}
 use Rattle.csv.specs.declared.parser.State.{State}
 use Rattle.csv.specs.declared.parser.State.TheVariants as st
-use Rattle.constraint_files.specs.Records.{lines_of, onto_first}
-use Rattle.constraint_files.proofs.Whole.{reads-end, reads-less}
+use Rattle.constraint_files.specs.Records.{lines_of, prepend_to_first}
+use Rattle.constraint_files.proofs.WholeLineLemmas.{reads-end, reads-less}
 
 -- The records of some bytes from a state, with the current fields and the bytes of the current field.
 unfoldable pub rows_from : State → List (List ℕ) → List ℕ → List ℕ → List (List (List ℕ))
@@ -180,7 +180,7 @@ joined-flat (l ∷ ls) = refl
 
 ended : (s : State) (fields : List (List ℕ)) (field : List ℕ) (c : ℕ) (xs : List ℕ) (ls : List (List ℕ)) → is_end (step default_config s c).1 ≡ true
     → rows_from (step default_config s c).0 [] [] xs ≡ joined_rows (step default_config s c).0 [] [] ls
-    → rows_from s fields field (c ∷ xs) ≡ joined_rows s fields field (onto_first c ls)
+    → rows_from s fields field (c ∷ xs) ≡ joined_rows s fields field (prepend_to_first c ls)
 unfolding rows_from
 ended s fields field c xs [] t e = rw (t, e, append-nil (rows_from (step default_config s c).0 [] [] [])) refl
 ended s fields field c xs (l ∷ ls) t e = rw (t, e) refl
@@ -188,7 +188,7 @@ ended s fields field c xs (l ∷ ls) t e = rw (t, e) refl
 goes : (s : State) (fields : List (List ℕ)) (field : List ℕ) (c : ℕ) (xs : List ℕ) (ls : List (List ℕ)) → is_end (step default_config s c).1 ≡ false
     → rows_from (step default_config s c).0 (fields_after (step default_config s c).1 fields field) (field_after (step default_config s c).1 c field) xs
     ≡ joined_rows (step default_config s c).0 (fields_after (step default_config s c).1 fields field) (field_after (step default_config s c).1 c field) ls
-    → rows_from s fields field (c ∷ xs) ≡ joined_rows s fields field (onto_first c ls)
+    → rows_from s fields field (c ∷ xs) ≡ joined_rows s fields field (prepend_to_first c ls)
 unfolding rows_from
 goes s fields field c xs [] t e = rw (t, e, append-nil (rows_from (step default_config s c).0 (fields_after (step default_config s c).1 fields field) (field_after (step default_config s c).1 c field) [])) refl
 goes s fields field c xs (l ∷ ls) t e = rw (t, e) refl

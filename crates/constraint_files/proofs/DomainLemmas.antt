@@ -6,8 +6,8 @@ use Rattle.std.specs.Str.{bytes_eq}
 use Rattle.std.proofs.lemmas.List.{map-id}
 use Rattle.std.proofs.lemmas.List.FromFn.{filter_of_map_range_with_len_more}
 use Rattle.csv.specs.Records.{field_at}
-use Rattle.constraint_files.specs.Domains.{channels_to_keep, domain_naming, domain_row}
-use Rattle.constraint_files.specs.Numbers.{number, numbers}
+use Rattle.constraint_files.specs.Domains.{channels_to_keep, domain_with_channels, domain_row}
+use Rattle.constraint_files.specs.Field.{number, numbers}
 use Rattle.pack_defs.specs.Steps.{◌>>=◌}
 use Rattle.constraint_files.specs.declared.error.RowWhy.TheVariants.{ShortRow, BadKey, BadNumber}
 
@@ -52,7 +52,7 @@ some-key x y e = cc
 
 pub domain_row-is : (fields : List (List ℕ)) (key second : List ℕ) → field_at fields 0 ≡ Some key → field_at fields 1 ≡ Some second → domain_row fields
     ≡ cond (bytes_eq key (codes "DOMAIN"))
-    (ok_or (option_and_then number (field_at fields 1)) BadNumber >>= (λ station. ok_or (numbers (drop 2 fields)) BadNumber >>= domain_naming station))
+    (ok_or (option_and_then number (field_at fields 1)) BadNumber >>= (λ station. ok_or (numbers (drop 2 fields)) BadNumber >>= domain_with_channels station))
     (Err BadKey)
 unfolding domain_row field_at
 domain_row-is [] key second e h = cc

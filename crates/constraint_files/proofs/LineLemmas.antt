@@ -1,7 +1,7 @@
 -- The first line of some bytes, and the effect of some records on a state.
 use Rattle.std.proofs.Common.{◌≡◌, ◌<◌, ◌≤◌, ◌+◌, ◌∷◌, [], ℕ, List, Result, Ok, zero, suc, refl, arith, length, take, drop, get_or, eq-eqb, ne_eqb}
 use Rattle.std.proofs.lemmas.List.{drop_all, drop_more}
-use Rattle.constraint_files.specs.Records.{after_lines, after_records, line_records, lines_of, past_line}
+use Rattle.constraint_files.specs.Records.{after_lines, after_records, line_records, lines_of, after_read_line}
 use Rattle.pack_defs.specs.Steps.{◌>>=◌}
 use Rattle.constraint_files.specs.declared.error.RowWhy.{RowWhy}
 
@@ -36,7 +36,7 @@ after-none add state rs i h = rw (drop_all i rs h) refl
 
 -- The effect of the lines of some bytes, by the first line.
 pub line-next : {S : Type 0} (add : S → List (List ℕ) → Result S RowWhy) (state : S) (number : ℕ) (bytes line rest : List ℕ) → lines_of bytes ≡ line ∷ lines_of rest
-    → after_lines add state number (lines_of bytes) ≡ past_line number (after_records add state (line_records line)) (λ next. after_lines add next (number + 1) (lines_of rest))
+    → after_lines add state number (lines_of bytes) ≡ after_read_line number (after_records add state (line_records line)) (λ next. after_lines add next (number + 1) (lines_of rest))
 unfolding after_lines
 line-next add state number bytes line rest e = rw e refl
 

@@ -9,7 +9,7 @@ use Rattle.std.proofs.lemmas.List.{drop_all}
 use Rattle.std.proofs.lemmas.List.Recursion.{and_fails_at}
 use Rattle.csv.specs.Records.{field_at}
 use Rattle.pack_defs.proofs.Digits.{value-take}
-use Rattle.constraint_files.specs.Numbers.{number, numbers}
+use Rattle.constraint_files.specs.Field.{number, numbers}
 
 -- A byte that is no digit.
 pub bad-digit : (field : List ℕ) (i : ℕ) → i < length field → is_ascii_digit (get_or field i 0) ≡ false → number field ≡ None

@@ -11,9 +11,9 @@ use Rattle.pack_defs.proofs.Words.{ascending-from, ascending-rest}
 use Rattle.pack_defs.specs.Book.{AreInOrder}
 use Rattle.pack_defs.specs.Lists.{is_ascending, is_in}
 use Rattle.pack_defs.specs.declared.domain.Domain.{Domain}
-use Rattle.constraint_files.specs.Domains.{add_domain_row, channels_to_keep, domain_naming, domain_row, domains_of, kept_channels, put_domain, channels_of, with_domain}
-use Rattle.constraint_files.specs.Numbers.{is_channel, number, numbers}
-use Rattle.constraint_files.specs.Records.{after_lines, after_records, line_records, lines_of, past_line}
+use Rattle.constraint_files.specs.Domains.{add_domain_row, channels_to_keep, domain_with_channels, domain_row, domains_of, kept_channels, put_domain, channels_of, with_domain}
+use Rattle.constraint_files.specs.Field.{is_channel, number, numbers}
+use Rattle.constraint_files.specs.Records.{after_lines, after_records, line_records, lines_of, after_read_line}
 use Rattle.pack_defs.specs.Steps.{◌>>=◌}
 use Rattle.constraint_files.specs.declared.error.RowWhy.{RowWhy}
 use Rattle.constraint_files.specs.declared.error.RowWhy.TheVariants.{BadKey, BadNumber, ChannelRange, SecondDomain, TooMany}
@@ -38,7 +38,7 @@ lines-keep {S = S} add P keeps s last number (line ∷ lines) p e =
     go (after_records add s (line_records line)) (λ next k. after-keeps add P keeps s next (line_records line) p k) (λ next q h. lines-keep add P keeps next last (number + 1) lines q h) e
   where
     go : (o : Result S RowWhy) → ((next : S) → o ≡ Ok next → P next) → ((next : S) → P next → after_lines add next (number + 1) lines ≡ Ok last → P last)
-        → past_line number o (λ next. after_lines add next (number + 1) lines) ≡ Ok last → P last
+        → after_read_line number o (λ next. after_lines add next (number + 1) lines) ≡ Ok last → P last
     go (Err why) kept later h = cc
     go (Ok next) kept later h = later next (kept next refl) h
 
@@ -51,7 +51,7 @@ to-keep-rise k h =
 pub kept-ascend : (named : List ℕ) → is_ascending (kept_channels named) ≡ true
 kept-ascend named = ascending-from (kept_channels named) (IsStrictlyIncreasing-filter (λ c. is_in named c) channels_to_keep to-keep-rise)
 
-naming-ascends : (s : ℕ) (named : List ℕ) (d : Domain) → domain_naming s named ≡ Ok d → is_ascending d.channels ≡ true
+naming-ascends : (s : ℕ) (named : List ℕ) (d : Domain) → domain_with_channels s named ≡ Ok d → is_ascending d.channels ≡ true
 naming-ascends s named d e = go (list_all is_channel named) e
   where
     go : (b : Bool) → cond b (Ok (record { station = s; channels = kept_channels named })) (Err ChannelRange) ≡ Ok d → is_ascending d.channels ≡ true
@@ -66,15 +66,15 @@ row-ascends [] d e = cc
 row-ascends (key ∷ []) d e = cc
 row-ascends (key ∷ facility ∷ channels) d e = by_key (bytes_eq key (codes "DOMAIN")) e
   where
-    by_numbers : (s : ℕ) (o : Option (List ℕ)) → (ok_or o BadNumber >>= domain_naming s) ≡ Ok d → is_ascending d.channels ≡ true
+    by_numbers : (s : ℕ) (o : Option (List ℕ)) → (ok_or o BadNumber >>= domain_with_channels s) ≡ Ok d → is_ascending d.channels ≡ true
     by_numbers s None h = cc
     by_numbers s (Some named) h = naming-ascends s named d h
 
-    by_station : (o : Option ℕ) → (ok_or o BadNumber >>= (λ s. ok_or (numbers channels) BadNumber >>= domain_naming s)) ≡ Ok d → is_ascending d.channels ≡ true
+    by_station : (o : Option ℕ) → (ok_or o BadNumber >>= (λ s. ok_or (numbers channels) BadNumber >>= domain_with_channels s)) ≡ Ok d → is_ascending d.channels ≡ true
     by_station None h = cc
     by_station (Some s) h = by_numbers s (numbers channels) h
 
-    by_key : (b : Bool) → cond b (ok_or (number facility) BadNumber >>= (λ s. ok_or (numbers channels) BadNumber >>= domain_naming s)) (Err BadKey) ≡ Ok d → is_ascending d.channels ≡ true
+    by_key : (b : Bool) → cond b (ok_or (number facility) BadNumber >>= (λ s. ok_or (numbers channels) BadNumber >>= domain_with_channels s)) (Err BadKey) ≡ Ok d → is_ascending d.channels ≡ true
     by_key true h = by_station (number facility) h
     by_key false h = cc
 

@@ -8,7 +8,7 @@ use Rattle.std.proofs.lemmas.Cmp.{by_ranked, ranked}
 use Rattle.pack_defs.specs.Book.{comes_before}
 use Rattle.pack_defs.specs.declared.pair.Pair.{Pair}
 use Rattle.pack_defs.proofs.Searches.{pair_cmp}
-use Rattle.constraint_files.specs.Rows.{with_pair}
+use Rattle.constraint_files.specs.PairTable.{with_pair}
 
 -- What the result of a comparison says about "the second before the first" and "the first before the second".
 abbrev Ranks : Bool → Bool → Ordering → Type 0

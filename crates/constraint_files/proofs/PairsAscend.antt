@@ -11,7 +11,7 @@ use Rattle.constraint_files.specs.Records.{lines_of}
 use Rattle.pack_defs.specs.Steps.{◌>>=◌}
 use Rattle.constraint_files.specs.declared.error.RowWhy.{RowWhy}
 use Rattle.constraint_files.specs.declared.error.RowWhy.TheVariants.{TooMany}
-use Rattle.constraint_files.specs.Rows.{PairsView, add_row, if_few, interference_row, pair_of, pairs_of, with_kept, with_other, with_pair}
+use Rattle.constraint_files.specs.PairTable.{PairsView, add_row, within_pair_limit, interference_row, pair_of, pairs_of, with_kept, with_other, with_pair}
 use Rattle.constraint_files.proofs.OrderLemmas.{lines-keep}
 
 -- A pair inserted in its place keeps the pairs ascending.
@@ -40,44 +40,44 @@ with-ascends (q ∷ qs) p up = go (comes_before q p) (comes_before p q) refl ref
     go false true a b later = and_from _ _ b up
     go false false a b later = up
 
-kept-ascends : (own theirs : Option (List ℕ)) (row : Row) (told : PairsView) (t : ℕ) → pairs_ascend told.list ≡ true → pairs_ascend (with_kept own theirs row told t).list ≡ true
-kept-ascends None theirs row told t up = up
-kept-ascends (Some own) None row told t up = up
-kept-ascends (Some own) (Some theirs) row told t up = go (is_in own row.channel && is_in theirs row.other_channel)
+kept-ascends : (own theirs : Option (List ℕ)) (row : Row) (pairs_view : PairsView) (t : ℕ) → pairs_ascend pairs_view.list ≡ true → pairs_ascend (with_kept own theirs row pairs_view t).list ≡ true
+kept-ascends None theirs row pairs_view t up = up
+kept-ascends (Some own) None row pairs_view t up = up
+kept-ascends (Some own) (Some theirs) row pairs_view t up = go (is_in own row.channel && is_in theirs row.other_channel)
   where
-    go : (b : Bool) → pairs_ascend (cond b (record { list = with_pair told.list (pair_of row.station row.channel t row.other_channel); self_pairs = told.self_pairs; strangers = told.strangers }) told).list ≡ true
-    go true = with-ascends told.list (pair_of row.station row.channel t row.other_channel) up
+    go : (b : Bool) → pairs_ascend (cond b (record { list = with_pair pairs_view.list (pair_of row.station row.channel t row.other_channel); self_pairs = pairs_view.self_pairs; strangers = pairs_view.strangers }) pairs_view).list ≡ true
+    go true = with-ascends pairs_view.list (pair_of row.station row.channel t row.other_channel) up
     go false = up
 
-other-ascends : (domains : List Domain) (row : Row) (told : PairsView) (t : ℕ) → pairs_ascend told.list ≡ true → pairs_ascend (with_other domains row told t).list ≡ true
-other-ascends domains row told t up = go (eqb t row.station)
+other-ascends : (domains : List Domain) (row : Row) (pairs_view : PairsView) (t : ℕ) → pairs_ascend pairs_view.list ≡ true → pairs_ascend (with_other domains row pairs_view t).list ≡ true
+other-ascends domains row pairs_view t up = go (eqb t row.station)
   where
-    go : (b : Bool) → pairs_ascend (cond b (record { list = told.list; self_pairs = told.self_pairs + 1; strangers = told.strangers }) (with_kept (channels_of domains row.station) (channels_of domains t) row told t)).list ≡ true
+    go : (b : Bool) → pairs_ascend (cond b (record { list = pairs_view.list; self_pairs = pairs_view.self_pairs + 1; strangers = pairs_view.strangers }) (with_kept (channels_of domains row.station) (channels_of domains t) row pairs_view t)).list ≡ true
     go true = up
-    go false = kept-ascends (channels_of domains row.station) (channels_of domains t) row told t up
+    go false = kept-ascends (channels_of domains row.station) (channels_of domains t) row pairs_view t up
 
-others-ascend : (domains : List Domain) (row : Row) (told : PairsView) (ts : List ℕ) → pairs_ascend told.list ≡ true → pairs_ascend (fold (with_other domains row) told ts).list ≡ true
-others-ascend domains row told [] up = up
-others-ascend domains row told (t ∷ ts) up = others-ascend domains row (with_other domains row told t) ts (other-ascends domains row told t up)
+others-ascend : (domains : List Domain) (row : Row) (pairs_view : PairsView) (ts : List ℕ) → pairs_ascend pairs_view.list ≡ true → pairs_ascend (fold (with_other domains row) pairs_view ts).list ≡ true
+others-ascend domains row pairs_view [] up = up
+others-ascend domains row pairs_view (t ∷ ts) up = others-ascend domains row (with_other domains row pairs_view t) ts (other-ascends domains row pairs_view t up)
 
-few-ascend : (told last : PairsView) → pairs_ascend told.list ≡ true → if_few told ≡ Ok last → pairs_ascend last.list ≡ true
-few-ascend told last up e = go (nat_lt 4000000 (length told.list)) e
+few-ascend : (pairs_view last : PairsView) → pairs_ascend pairs_view.list ≡ true → within_pair_limit pairs_view ≡ Ok last → pairs_ascend last.list ≡ true
+few-ascend pairs_view last up e = go (nat_lt 4000000 (length pairs_view.list)) e
   where
-    go : (b : Bool) → cond b (Err TooMany) (Ok told) ≡ Ok last → pairs_ascend last.list ≡ true
+    go : (b : Bool) → cond b (Err TooMany) (Ok pairs_view) ≡ Ok last → pairs_ascend last.list ≡ true
     go true h = cc
     go false h =
-        let is : told ≡ last = cc in
+        let is : pairs_view ≡ last = cc in
         rw (← is) up
 
-pub row-ascends : (domains : List Domain) (told last : PairsView) (r : List (List ℕ)) → pairs_ascend told.list ≡ true → add_row domains told r ≡ Ok last → pairs_ascend last.list ≡ true
-row-ascends domains told last r up e = go (interference_row r) e
+pub row-ascends : (domains : List Domain) (pairs_view last : PairsView) (r : List (List ℕ)) → pairs_ascend pairs_view.list ≡ true → add_row domains pairs_view r ≡ Ok last → pairs_ascend last.list ≡ true
+row-ascends domains pairs_view last r up e = go (interference_row r) e
   where
-    go : (o : Result Row RowWhy) → (o >>= (λ row. if_few (fold (with_other domains row) told row.others))) ≡ Ok last → pairs_ascend last.list ≡ true
+    go : (o : Result Row RowWhy) → (o >>= (λ row. within_pair_limit (fold (with_other domains row) pairs_view row.others))) ≡ Ok last → pairs_ascend last.list ≡ true
     go (Err why) h = cc
-    go (Ok row) h = few-ascend (fold (with_other domains row) told row.others) last (others-ascend domains row told row.others up) h
+    go (Ok row) h = few-ascend (fold (with_other domains row) pairs_view row.others) last (others-ascend domains row pairs_view row.others up) h
 
 -- The pairs of a file ascend.
-pub pairs-ascend : (bytes : List ℕ) (domains : List Domain) (told : PairsView) → pairs_of bytes domains ≡ Ok told → pairs_ascend told.list ≡ true
+pub pairs-ascend : (bytes : List ℕ) (domains : List Domain) (pairs_view : PairsView) → pairs_of bytes domains ≡ Ok pairs_view → pairs_ascend pairs_view.list ≡ true
 unfolding pairs_of
-pairs-ascend bytes domains told e =
-    lines-keep (add_row domains) (λ (x : PairsView). pairs_ascend x.list ≡ true) (λ s last r p k. row-ascends domains s last r p k) (record { list = []; self_pairs = 0; strangers = 0 }) told 1 (lines_of bytes) refl e
+pairs-ascend bytes domains pairs_view e =
+    lines-keep (add_row domains) (λ (x : PairsView). pairs_ascend x.list ≡ true) (λ s last r p k. row-ascends domains s last r p k) (record { list = []; self_pairs = 0; strangers = 0 }) pairs_view 1 (lines_of bytes) refl e

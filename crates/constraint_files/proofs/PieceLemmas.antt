@@ -3,8 +3,8 @@ use Rattle.std.proofs.Common.{◌≡◌, ◌∙◌, ◌<◌, ◌≤◌, ◌+◌,
 use Rattle.std.proofs.lemmas.Bool.{cases_Bool}
 use Rattle.std.proofs.lemmas.List.{append-nil, drop_more, length-append, take_more}
 use Rattle.std.proofs.lemmas.List.Folds.{list_any-append}
-use Rattle.constraint_files.specs.Pieces.{Fed, begun_line, fed_if, fed_on, finished, has_end, whole_lines}
-use Rattle.constraint_files.specs.Records.{after_lines, after_records, line_records, lines_of, past_line}
+use Rattle.constraint_files.specs.LineReader.{FeedState, begun_line, fed_unless_rejected, fed_on, finished, has_end, whole_lines}
+use Rattle.constraint_files.specs.Records.{after_lines, after_records, line_records, lines_of, after_read_line}
 use Rattle.constraint_files.specs.Reads.{Reads}
 use Rattle.constraint_files.specs.declared.error.ReadErr.{ReadErr}
 use Rattle.constraint_files.specs.declared.error.ReadErr.TheVariants.{Row, NoMemory}
@@ -78,7 +78,7 @@ after-append {S = S} add s m n (x ∷ xs) ys e =
     rw z (go (after_records add s (line_records x)) (λ next h. after-append add next m (n + 1) xs ys h) e)
   where
     go : (o : Result S RowWhy) → ((next : S) → after_lines add next (n + 1) xs ≡ Ok m → after_lines add next (n + 1) (xs ++ ys) ≡ after_lines add m (n + 1 + length xs) ys)
-        → past_line n o (λ next. after_lines add next (n + 1) xs) ≡ Ok m → past_line n o (λ next. after_lines add next (n + 1) (xs ++ ys)) ≡ after_lines add m (n + 1 + length xs) ys
+        → after_read_line n o (λ next. after_lines add next (n + 1) xs) ≡ Ok m → after_read_line n o (λ next. after_lines add next (n + 1) (xs ++ ys)) ≡ after_lines add m (n + 1 + length xs) ys
     go (Err why) later h = cc
     go (Ok next) later h = later next h
 
@@ -90,18 +90,18 @@ after-refused add s n [] ys why e = cc
 after-refused {S = S} add s n (x ∷ xs) ys why e = go (after_records add s (line_records x)) (λ next h. after-refused add next (n + 1) xs ys why h) e
   where
     go : (o : Result S RowWhy) → ((next : S) → after_lines add next (n + 1) xs ≡ Err why → after_lines add next (n + 1) (xs ++ ys) ≡ Err why)
-        → past_line n o (λ next. after_lines add next (n + 1) xs) ≡ Err why → past_line n o (λ next. after_lines add next (n + 1) (xs ++ ys)) ≡ Err why
+        → after_read_line n o (λ next. after_lines add next (n + 1) xs) ≡ Err why → after_read_line n o (λ next. after_lines add next (n + 1) (xs ++ ys)) ≡ Err why
     go (Err w) later h = h
     go (Ok next) later h = later next h
 
 -- A file fed in two pieces is as fed in one.
-pub fed-append : {S : Type 0} (add : S → List (List ℕ) → Result S RowWhy) (had has : Fed S) (xs ys : List ℕ)
+pub fed-append : {S : Type 0} (add : S → List (List ℕ) → Result S RowWhy) (had has : FeedState S) (xs ys : List ℕ)
     → fed_on add had xs ≡ Ok has → fed_on add had (xs ++ ys) ≡ fed_on add has ys
 unfolding fed_on
 fed-append {S = S} add had has xs ys e = go (after_lines add had.made had.line (whole_lines (had.begun ++ xs))) refl e
   where
     go : (o : Result S ReadErr) → after_lines add had.made had.line (whole_lines (had.begun ++ xs)) ≡ o
-        → fed_if o (begun_line (had.begun ++ xs)) (had.line + length (whole_lines (had.begun ++ xs))) ≡ Ok has
+        → fed_unless_rejected o (begun_line (had.begun ++ xs)) (had.line + length (whole_lines (had.begun ++ xs))) ≡ Ok has
         → fed_on add had (xs ++ ys) ≡ fed_on add has ys
     go (Err why) is h = cc
     go (Ok m) is h =
@@ -111,13 +111,13 @@ fed-append {S = S} add had has xs ys e = go (after_lines add had.made had.line (
         rw (← same, ← append_assoc had.begun xs ys, whole-append all ys, begun-append all ys, length-append (whole_lines all) (whole_lines (begun_line all ++ ys)), after-append add had.made m had.line (whole_lines all) (whole_lines (begun_line all ++ ys)) is, z) refl
 
 -- The result of the bytes so far as a complete file.
-pub fed-end : {S : Type 0} (add : S → List (List ℕ) → Result S RowWhy) (had has : Fed S) (xs : List ℕ)
+pub fed-end : {S : Type 0} (add : S → List (List ℕ) → Result S RowWhy) (had has : FeedState S) (xs : List ℕ)
     → fed_on add had xs ≡ Ok has → after_lines add had.made had.line (lines_of (had.begun ++ xs)) ≡ finished add has
 unfolding fed_on finished
 fed-end {S = S} add had has xs e = go (after_lines add had.made had.line (whole_lines (had.begun ++ xs))) refl e
   where
     go : (o : Result S ReadErr) → after_lines add had.made had.line (whole_lines (had.begun ++ xs)) ≡ o
-        → fed_if o (begun_line (had.begun ++ xs)) (had.line + length (whole_lines (had.begun ++ xs))) ≡ Ok has
+        → fed_unless_rejected o (begun_line (had.begun ++ xs)) (had.line + length (whole_lines (had.begun ++ xs))) ≡ Ok has
         → after_lines add had.made had.line (lines_of (had.begun ++ xs)) ≡ finished add has
     go (Err why) is h = cc
     go (Ok m) is h =
@@ -126,13 +126,13 @@ fed-end {S = S} add had has xs e = go (after_lines add had.made had.line (whole_
         rw (← same, lines-whole all) (after-append add had.made m had.line (whole_lines all) (lines_of (begun_line all)) is)
 
 -- An error in the bytes so far is an error of the complete file, whatever follows.
-pub fed-refused : {S : Type 0} (add : S → List (List ℕ) → Result S RowWhy) (had : Fed S) (xs ys : List ℕ) (why : ReadErr)
+pub fed-refused : {S : Type 0} (add : S → List (List ℕ) → Result S RowWhy) (had : FeedState S) (xs ys : List ℕ) (why : ReadErr)
     → fed_on add had xs ≡ Err why → after_lines add had.made had.line (lines_of (had.begun ++ (xs ++ ys))) ≡ Err why
 unfolding fed_on
 fed-refused {S = S} add had xs ys why e = go (after_lines add had.made had.line (whole_lines (had.begun ++ xs))) refl e
   where
     go : (o : Result S ReadErr) → after_lines add had.made had.line (whole_lines (had.begun ++ xs)) ≡ o
-        → fed_if o (begun_line (had.begun ++ xs)) (had.line + length (whole_lines (had.begun ++ xs))) ≡ Err why
+        → fed_unless_rejected o (begun_line (had.begun ++ xs)) (had.line + length (whole_lines (had.begun ++ xs))) ≡ Err why
         → after_lines add had.made had.line (lines_of (had.begun ++ (xs ++ ys))) ≡ Err why
     go (Ok m) is h = cc
     go (Err w) is h =
@@ -142,7 +142,7 @@ fed-refused {S = S} add had xs ys why e = go (after_lines add had.made had.line 
         (after-refused add had.made had.line (whole_lines all) (whole_lines (begun_line all ++ ys) ++ lines_of (begun_line (all ++ ys))) why (is ∙ ap Err same))
 
 -- Bytes without an end join the unfinished line.
-pub fed-begun : {S : Type 0} (add : S → List (List ℕ) → Result S RowWhy) (had : Fed S) (xs : List ℕ) → has_end had.begun ≡ false → has_end xs ≡ false
+pub fed-begun : {S : Type 0} (add : S → List (List ℕ) → Result S RowWhy) (had : FeedState S) (xs : List ℕ) → has_end had.begun ≡ false → has_end xs ≡ false
     → fed_on add had xs ≡ Ok (record { made = had.made; begun = had.begun ++ xs; line = had.line })
 unfolding fed_on after_lines
 fed-begun add had xs before none =
@@ -168,8 +168,8 @@ whole-ends (c ∷ ys) some e = elim (cases_Bool (has_end (c ∷ ys))) [
 ]
 
 -- Complete lines behind the unfinished line.
-pub fed-whole : {S : Type 0} (add : S → List (List ℕ) → Result S RowWhy) (had : Fed S) (xs : List ℕ) → 0 < length xs → begun_line xs ≡ []
-    → fed_on add had xs ≡ fed_if (after_lines add had.made had.line (lines_of (had.begun ++ xs))) [] (had.line + length (lines_of (had.begun ++ xs)))
+pub fed-whole : {S : Type 0} (add : S → List (List ℕ) → Result S RowWhy) (had : FeedState S) (xs : List ℕ) → 0 < length xs → begun_line xs ≡ []
+    → fed_on add had xs ≡ fed_unless_rejected (after_lines add had.made had.line (lines_of (had.begun ++ xs))) [] (had.line + length (lines_of (had.begun ++ xs)))
 unfolding fed_on lines_of
 fed-whole add had xs some whole =
     let behind : begun_line (had.begun ++ xs) ≡ [] = ends-behind had.begun xs (whole-ends xs some whole) ∙ whole in
@@ -200,37 +200,37 @@ one-line (c ∷ d ∷ xs) some none = elim (cases_Bool (eqb c 10)) [
 ]
 
 -- The unfinished line, completed by the first of these lines, and then the others.
-pub whole-next : {S : Type 0} (add : S → List (List ℕ) → Result S RowWhy) (had mid : Fed S) (bytes line after : List ℕ)
+pub whole-next : {S : Type 0} (add : S → List (List ℕ) → Result S RowWhy) (had mid : FeedState S) (bytes line after : List ℕ)
     → has_end had.begun ≡ false → 0 < length bytes → begun_line bytes ≡ [] → lines_of bytes ≡ line ∷ lines_of after
-    → fed_if (after_lines add had.made had.line ((had.begun ++ line) ∷ [])) [] (had.line + 1) ≡ Ok mid
-    → fed_on add had bytes ≡ fed_if (after_lines add mid.made mid.line (lines_of after)) mid.begun (mid.line + length (lines_of after))
+    → fed_unless_rejected (after_lines add had.made had.line ((had.begun ++ line) ∷ [])) [] (had.line + 1) ≡ Ok mid
+    → fed_on add had bytes ≡ fed_unless_rejected (after_lines add mid.made mid.line (lines_of after)) mid.begun (mid.line + length (lines_of after))
 whole-next {S = S} add had mid bytes line after none some whole first e =
     rw (fed-whole add had bytes some whole, joined had.begun bytes line after none first) (go (after_lines add had.made had.line ((had.begun ++ line) ∷ [])) refl e)
   where
-    go : (o : Result S ReadErr) → after_lines add had.made had.line ((had.begun ++ line) ∷ []) ≡ o → fed_if o [] (had.line + 1) ≡ Ok mid
-        → fed_if (after_lines add had.made had.line ((had.begun ++ line) ∷ lines_of after)) [] (had.line + length ((had.begun ++ line) ∷ lines_of after))
-        ≡ fed_if (after_lines add mid.made mid.line (lines_of after)) mid.begun (mid.line + length (lines_of after))
+    go : (o : Result S ReadErr) → after_lines add had.made had.line ((had.begun ++ line) ∷ []) ≡ o → fed_unless_rejected o [] (had.line + 1) ≡ Ok mid
+        → fed_unless_rejected (after_lines add had.made had.line ((had.begun ++ line) ∷ lines_of after)) [] (had.line + length ((had.begun ++ line) ∷ lines_of after))
+        ≡ fed_unless_rejected (after_lines add mid.made mid.line (lines_of after)) mid.begun (mid.line + length (lines_of after))
     go (Err why) is h = cc
     go (Ok m) is h =
         let same : record { made = m; begun = []; line = had.line + 1 } ≡ mid = cc in
         let z : had.line + suc (length (lines_of after)) ≡ had.line + 1 + length (lines_of after) = omega arith in
         rw (← same, after-append add had.made m had.line ((had.begun ++ line) ∷ []) (lines_of after) is, z) refl
 
-fed-err : {S : Type 0} (o : Result S ReadErr) (begun : List ℕ) (line : ℕ) (why : ReadErr) → fed_if o begun line ≡ Err why → o ≡ Err why
+fed-err : {S : Type 0} (o : Result S ReadErr) (begun : List ℕ) (line : ℕ) (why : ReadErr) → fed_unless_rejected o begun line ≡ Err why → o ≡ Err why
 fed-err (Ok m) begun line why e = cc
 fed-err (Err w) begun line why e = cc
 
 -- An error in the first line is an error of all.
-pub line-stops : {S : Type 0} (add : S → List (List ℕ) → Result S RowWhy) (had : Fed S) (bytes line after : List ℕ) (e : ReadErr)
+pub line-stops : {S : Type 0} (add : S → List (List ℕ) → Result S RowWhy) (had : FeedState S) (bytes line after : List ℕ) (e : ReadErr)
     → has_end had.begun ≡ false → 0 < length bytes → begun_line bytes ≡ [] → lines_of bytes ≡ line ∷ lines_of after
-    → Reads (fed_if (after_lines add had.made had.line ((had.begun ++ line) ∷ [])) [] (had.line + 1)) (Err e) → Reads (fed_on add had bytes) (Err e)
+    → Reads (fed_unless_rejected (after_lines add had.made had.line ((had.begun ++ line) ∷ [])) [] (had.line + 1)) (Err e) → Reads (fed_on add had bytes) (Err e)
 line-stops add had bytes line after (Row l why) none some whole first h =
     let refused = fed-err (after_lines add had.made had.line ((had.begun ++ line) ∷ [])) [] (had.line + 1) (Row l why) h in
     rw (fed-whole add had bytes some whole, joined had.begun bytes line after none first, after-refused add had.made had.line ((had.begun ++ line) ∷ []) (lines_of after) (Row l why) refused) refl
 line-stops add had bytes line after NoMemory none some whole first h = tt
 
 -- An error in the first bytes is an error of all.
-pub bytes-stop : {S : Type 0} (add : S → List (List ℕ) → Result S RowWhy) (had : Fed S) (xs ys : List ℕ) (e : ReadErr)
+pub bytes-stop : {S : Type 0} (add : S → List (List ℕ) → Result S RowWhy) (had : FeedState S) (xs ys : List ℕ) (e : ReadErr)
     → Reads (fed_on add had xs) (Err e) → Reads (fed_on add had (xs ++ ys)) (Err e)
 unfolding fed_on
 bytes-stop add had xs ys (Row l why) h =
@@ -277,19 +277,19 @@ unfolding lines_of
 counts-none number = omega arith
 
 -- The effect of the last line, read as lines.
-pub end-is : {S : Type 0} (add : S → List (List ℕ) → Result S RowWhy) (s : S) (xs : List ℕ) (n : ℕ) (begun : List ℕ) (m : ℕ) (has : Fed S)
-    → fed_if (after_lines add s n (lines_of xs)) begun m ≡ Ok has → finished add (record { made = s; begun = xs; line = n }) ≡ Ok has.made
+pub end-is : {S : Type 0} (add : S → List (List ℕ) → Result S RowWhy) (s : S) (xs : List ℕ) (n : ℕ) (begun : List ℕ) (m : ℕ) (has : FeedState S)
+    → fed_unless_rejected (after_lines add s n (lines_of xs)) begun m ≡ Ok has → finished add (record { made = s; begun = xs; line = n }) ≡ Ok has.made
 unfolding finished
 end-is {S = S} add s xs n begun m has e = go (after_lines add s n (lines_of xs)) e
   where
-    go : (o : Result S ReadErr) → fed_if o begun m ≡ Ok has → o ≡ Ok has.made
+    go : (o : Result S ReadErr) → fed_unless_rejected o begun m ≡ Ok has → o ≡ Ok has.made
     go (Err why) h = cc
     go (Ok made) h =
         let same : record { made = made; begun = begun; line = m } ≡ has = cc in
         rw (← same) refl
 
 pub end-stops : {S : Type 0} (add : S → List (List ℕ) → Result S RowWhy) (s : S) (xs : List ℕ) (n : ℕ) (begun : List ℕ) (m : ℕ) (e : ReadErr)
-    → Reads (fed_if (after_lines add s n (lines_of xs)) begun m) (Err e) → Reads (finished add (record { made = s; begun = xs; line = n })) (Err e)
+    → Reads (fed_unless_rejected (after_lines add s n (lines_of xs)) begun m) (Err e) → Reads (finished add (record { made = s; begun = xs; line = n })) (Err e)
 unfolding finished
 end-stops add s xs n begun m (Row l why) h = fed-err (after_lines add s n (lines_of xs)) begun m (Row l why) h
 end-stops add s xs n begun m NoMemory h = tt

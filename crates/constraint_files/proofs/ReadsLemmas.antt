@@ -1,6 +1,6 @@
 -- Errors and lack of memory propagate.
 use Rattle.std.proofs.Common.{◌≡◌, ◌∙◌, ◌<◌, ◌+◌, ◌∷◌, ℕ, List, Result, Err, ap, refl, length, get_or, drop}
-use Rattle.constraint_files.specs.Records.{after_lines, after_records, line_records, lines_of, past_line}
+use Rattle.constraint_files.specs.Records.{after_lines, after_records, line_records, lines_of, after_read_line}
 use Rattle.constraint_files.proofs.LineLemmas.{after-next, line-next}
 use Rattle.constraint_files.specs.Reads.{Changes, Takes}
 use Rattle.pack_defs.specs.Steps.{◌>>=◌}
@@ -29,4 +29,4 @@ stops add state new rs i r NoMemory h is refused = tt
 pub stops-all : {S : Type 0} (add : S → List (List ℕ) → Result S RowWhy) (state : S) (number : ℕ) (bytes line rest : List ℕ) (why : RowWhy) → lines_of bytes ≡ line ∷ lines_of rest
     → after_records add state (line_records line) ≡ Err why → after_lines add state number (lines_of bytes) ≡ Err (Row number why)
 stops-all add state number bytes line rest why first refused =
-    line-next add state number bytes line rest first ∙ ap (λ o. past_line number o (λ next. after_lines add next (number + 1) (lines_of rest))) refused
+    line-next add state number bytes line rest first ∙ ap (λ o. after_read_line number o (λ next. after_lines add next (number + 1) (lines_of rest))) refused

@@ -6,8 +6,8 @@ use Rattle.constraint_files.specs.declared.error.RowWhy.{RowWhy}
 use Rattle.constraint_files.specs.declared.error.RowWhy.TheVariants.{ShortRow, BadKey, BadNumber}
 use Rattle.constraint_files.specs.declared.interference_row.Offset.{Offset}
 use Rattle.constraint_files.specs.declared.interference_row.Row.{Row}
-use Rattle.constraint_files.specs.Numbers.{number, numbers}
-use Rattle.constraint_files.specs.Rows.{interference_row, offset_of, row_on}
+use Rattle.constraint_files.specs.Field.{number, numbers}
+use Rattle.constraint_files.specs.PairTable.{interference_row, offset_of, row_on}
 use Rattle.pack_defs.specs.Steps.{◌>>=◌}
 
 -- The row of these numbers, if each exists.

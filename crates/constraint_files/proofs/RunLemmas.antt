@@ -7,13 +7,13 @@ use Rattle.csv.specs.Reading.{Reached, default_config, records, strip_bom}
 use Rattle.csv.specs.declared.parser.State.{State}
 use Rattle.csv.specs.declared.parser.State.TheVariants as st
 use Rattle.pack_defs.specs.Lists.{is_empty}
-use Rattle.constraint_files.specs.Records.{after_lines, after_records, kept_fields, lines_of, onto_first, past_line}
-use Rattle.constraint_files.specs.Runs.{IsRefusedBehind, Runs, RunsNext, after_raw, after_raws, is_plain, is_special, line_number_at, raw_records}
+use Rattle.constraint_files.specs.Records.{after_lines, after_records, kept_fields, lines_of, prepend_to_first, after_read_line}
+use Rattle.constraint_files.specs.PlainLines.{IsRefusedBehind, Runs, RunsNext, after_raw, after_raws, is_plain, is_special, line_number_at, raw_records}
 use Rattle.pack_defs.specs.Steps.{◌>>=◌}
 use Rattle.constraint_files.specs.declared.error.ReadErr.TheVariants.{Row}
 use Rattle.constraint_files.specs.declared.error.RowWhy.{RowWhy}
-use Rattle.constraint_files.specs.declared.plain_lines.RunErr.{RunErr}
-use Rattle.constraint_files.specs.declared.plain_lines.RunErr.TheVariants.{NoMemory, Refused}
+use Rattle.constraint_files.specs.declared.plain_lines.RecordsErr.{RecordsErr}
+use Rattle.constraint_files.specs.declared.plain_lines.RecordsErr.TheVariants.{NoMemory, Refused}
 use Rattle.constraint_files.proofs.CsvLemmas.{records-rows, rows, rows-next, rows-of-lines, rows_from}
 
 -- Two runs of records, one after the other.
@@ -34,7 +34,7 @@ unfolding after_raws
 raws-more add s m t done r taken is = rw (raws-bind add s done (r ∷ []), taken, is) refl
 
 -- A record that is not added ends the run: it is invalid, or memory ran out.
-pub next-stops : {S : Type 0} (add : S → List (List ℕ) → Result S RowWhy) (s m new : S) (raws done left : List (List (List ℕ))) (r : List (List ℕ)) (before : ℕ) (e : RunErr)
+pub next-stops : {S : Type 0} (add : S → List (List ℕ) → Result S RowWhy) (s m new : S) (raws done left : List (List (List ℕ))) (r : List (List ℕ)) (before : ℕ) (e : RecordsErr)
     → raws ≡ done ++ (r ∷ left) → length done ≡ before → after_raws add s done ≡ Ok m → RunsNext add m r before new (Err e) → Runs add s raws (Err e)
 next-stops add s m new raws done left r before (Refused n why) all count taken h =
     record { done = done; refused = r; left = left; all = all; count = count ∙ sym h.0; made = m; taken = taken; is = h.1 }
@@ -72,7 +72,7 @@ lines-added {S = S} add s t n (line ∷ lines) e =
     (go (after_raws add s (raw_records line)) (λ m h. lines-added add m t (n + 1) lines h) (rw (raws-bind add s (raw_records line) (flat_map raw_records lines)) at e))
   where
     go : (o : Result S RowWhy) → ((m : S) → after_raws add m (flat_map raw_records lines) ≡ Ok t → after_lines add m (n + 1) lines ≡ Ok t)
-        → (o >>= (λ m. after_raws add m (flat_map raw_records lines))) ≡ Ok t → past_line n o (λ m. after_lines add m (n + 1) lines) ≡ Ok t
+        → (o >>= (λ m. after_raws add m (flat_map raw_records lines))) ≡ Ok t → after_read_line n o (λ m. after_lines add m (n + 1) lines) ≡ Ok t
     go (Err why) later h = cc
     go (Ok m) later h = later m h
 
@@ -129,7 +129,7 @@ lines-stop {S = S} add s m n (line ∷ lines) done left r why all taken is = eli
   where
     go : (rest : List (List (List ℕ))) (o : Result S RowWhy)
         → ((k : S) → after_raws add k rest ≡ Ok m → after_lines add k (n + 1) lines ≡ Err (Row (line_number_at (n + 1) (length rest) lines) why))
-        → (o >>= (λ k. after_raws add k rest)) ≡ Ok m → past_line n o (λ k. after_lines add k (n + 1) lines) ≡ Err (Row (line_number_at (n + 1) (length rest) lines) why)
+        → (o >>= (λ k. after_raws add k rest)) ≡ Ok m → after_read_line n o (λ k. after_lines add k (n + 1) lines) ≡ Err (Row (line_number_at (n + 1) (length rest) lines) why)
     go rest (Err w) later h = cc
     go rest (Ok k) later h = later k h
 
@@ -167,7 +167,7 @@ lines-plain (c ∷ xs) plain =
       | inr f ↦ rw f (go (lines_of xs) parts.0 (lines-plain xs parts.1))
     ]
   where
-    go : (ls : List (List ℕ)) → not (is_special c) ≡ true → list_all is_plain ls ≡ true → list_all is_plain (onto_first c ls) ≡ true
+    go : (ls : List (List ℕ)) → not (is_special c) ≡ true → list_all is_plain ls ≡ true → list_all is_plain (prepend_to_first c ls) ≡ true
     go [] one all = rw one refl
     go (l ∷ ls) one all = let parts = and_parts _ _ all in and_from _ _ (and_from _ _ one parts.0) parts.1
 

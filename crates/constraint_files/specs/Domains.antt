@@ -6,8 +6,8 @@ use Rattle.std.specs.Str.{bytes_eq}
 use Rattle.pack_defs.specs.Lists.{is_in}
 use Rattle.pack_defs.specs.declared.domain.Domain.{Domain}
 use Rattle.pack_defs.specs.declared.limits.TheConstants.{LEAST_CHANNEL, MOST_DOMAIN_ROWS}
-use Rattle.constraint_files.specs.Numbers.{number, numbers, is_channel}
-use Rattle.constraint_files.specs.Pieces.{Fed, fed_on}
+use Rattle.constraint_files.specs.Field.{number, numbers, is_channel}
+use Rattle.constraint_files.specs.LineReader.{FeedState, fed_on}
 use Rattle.constraint_files.specs.Records.{lines_of, after_lines}
 use Rattle.pack_defs.specs.Steps.{◌>>=◌}
 use Rattle.constraint_files.specs.declared.error.ReadErr.{ReadErr}
@@ -23,8 +23,8 @@ abbrev pub kept_channels : List ℕ → List ℕ
 kept_channels named = filter (λ c. is_in named c) channels_to_keep
 
 -- The domain of a station whose row names these channels.
-abbrev pub domain_naming : ℕ → List ℕ → Result Domain RowWhy
-domain_naming station named =
+abbrev pub domain_with_channels : ℕ → List ℕ → Result Domain RowWhy
+domain_with_channels station named =
     if list_all is_channel named then Ok (record { station = station; channels = kept_channels named }) else Err ChannelRange
 
 -- The domain of these fields.
@@ -32,7 +32,7 @@ abbrev pub domain_from : List ℕ → List (List ℕ) → Result Domain RowWhy
 domain_from facility channels = do
   station ← ok_or (number facility) BadNumber
   named ← ok_or (numbers channels) BadNumber
-  domain_naming station named
+  domain_with_channels station named
 
 -- The domain of a record: `DOMAIN,facility,channel,...`.
 unfoldable pub domain_row : List (List ℕ) → Result Domain RowWhy
@@ -67,5 +67,5 @@ unfoldable pub domains_of : List ℕ → Result (List Domain) ReadErr
 domains_of bytes = after_lines add_domain_row [] 1 (lines_of bytes)
 
 -- The state of a reader of domains after these bytes, in whatever pieces, or the first error in a line that is complete by then.
-unfoldable pub domains_fed : List ℕ → Result (Fed (List Domain)) ReadErr
+unfoldable pub domains_fed : List ℕ → Result (FeedState (List Domain)) ReadErr
 domains_fed bytes = fed_on add_domain_row (record { made = []; begun = []; line = 1 }) bytes

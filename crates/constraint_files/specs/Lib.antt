@@ -1,7 +1,7 @@
 pub mod Records
-pub mod Numbers
+pub mod Field
 pub mod Domains
-pub mod Rows
+pub mod PairTable
 pub mod Reads
-pub mod Pieces
-pub mod Runs
+pub mod LineReader
+pub mod PlainLines

@@ -8,14 +8,14 @@ use Rattle.constraint_files.specs.declared.error.ReadErr.TheVariants.{Row}
 use Rattle.constraint_files.specs.declared.error.RowWhy.{RowWhy}
 
 -- The lines with one more byte at the start of the first line, or a line of this byte.
-abbrev pub onto_first : ℕ → List (List ℕ) → List (List ℕ)
-onto_first c [] = (c ∷ []) ∷ []
-onto_first c (line ∷ lines) = (c ∷ line) ∷ lines
+abbrev pub prepend_to_first : ℕ → List (List ℕ) → List (List ℕ)
+prepend_to_first c [] = (c ∷ []) ∷ []
+prepend_to_first c (line ∷ lines) = (c ∷ line) ∷ lines
 
 -- The lines of some bytes. The byte 0A ends a line; bytes after the last 0A are a line too.
 unfoldable pub lines_of : List ℕ → List (List ℕ)
 lines_of [] = []
-lines_of (c ∷ rest) = if c == 10 then [] ∷ lines_of rest else onto_first c (lines_of rest)
+lines_of (c ∷ rest) = if c == 10 then [] ∷ lines_of rest else prepend_to_first c (lines_of rest)
 
 -- Whether the byte is a space or a tab.
 abbrev pub is_blank : ℕ → Bool
@@ -51,13 +51,13 @@ after_records add state (r ∷ rs) = do
   after_records add next rs
 
 -- What comes after a line, or the error of this line.
-abbrev pub past_line : {S : Type 0} → ℕ → Result S RowWhy → (S → Result S ReadErr) → Result S ReadErr
-past_line line (Ok next) rest = rest next
-past_line line (Err why) rest = Err (Row line why)
+abbrev pub after_read_line : {S : Type 0} → ℕ → Result S RowWhy → (S → Result S ReadErr) → Result S ReadErr
+after_read_line line (Ok next) rest = rest next
+after_read_line line (Err why) rest = Err (Row line why)
 
 -- The state after the records of these lines; the first line has this number. The first invalid record is the error of all, with its line
 -- number.
 unfoldable pub after_lines : {S : Type 0} → (S → List (List ℕ) → Result S RowWhy) → S → ℕ → List (List ℕ) → Result S ReadErr
 after_lines add state number [] = Ok state
 after_lines add state number (line ∷ lines) =
-    past_line number (after_records add state (line_records line)) (λ next. after_lines add next (number + 1) lines)
+    after_read_line number (after_records add state (line_records line)) (λ next. after_lines add next (number + 1) lines)

@@ -3,8 +3,8 @@
 ghost use Rattle.std.specs.Prelude.{◌≡◌, ◌<◌, ℕ, IfOk, MatchOption, filter, length, slice_index_or, true, false};
 ghost use Rattle.std.specs.List.{list_all};
 ghost use Rattle.pack_defs.specs.Lists.{is_in};
-ghost use Rattle.constraint_files.specs.Domains.{channels_to_keep, domain_naming, domain_row};
-ghost use Rattle.constraint_files.specs.Numbers.{is_channel};
+ghost use Rattle.constraint_files.specs.Domains.{channels_to_keep, domain_with_channels, domain_row};
+ghost use Rattle.constraint_files.specs.Field.{is_channel};
 ghost use Rattle.constraint_files.specs.Reads.{Takes};
 
 use crate::error::{RowErr, RowWhy};
@@ -47,8 +47,8 @@ fn kept_channels(alloc: Global, is_named: &[bool]) -> Result<Items<u8>, NoMemory
 ///
 /// # Errors
 /// Fails if some number is no channel, or memory runs out.
-fn domain_naming(alloc: Global, station: u32, named: &[u32]) -> Result<Domain, RowErr>
-    ensures { Takes (domain_naming station named.now) result }
+fn domain_with_channels(alloc: Global, station: u32, named: &[u32]) -> Result<Domain, RowErr>
+    ensures { Takes (domain_with_channels station named.now) result }
 {
     let Some(is_named) = named_channels(named) else {
         return Err(RowErr::Refused(RowWhy::ChannelRange));
@@ -76,5 +76,5 @@ pub(crate) fn domain_row(alloc: Global, fields: &CsvRecord) -> Result<Domain, Ro
         return Err(RowErr::Refused(RowWhy::BadNumber));
     };
     let named = numbers_from(alloc, fields, 2)?;
-    domain_naming(alloc, station, named.as_slice())
+    domain_with_channels(alloc, station, named.as_slice())
 }

@@ -65,9 +65,9 @@ impl Model for DomainReader {
     ghost use Rattle.std.specs.Prelude.{List};
     ghost use Rattle.pack_defs.specs.Book.{AreInOrder};
     ghost use Rattle.pack_defs.specs.declared.domain.Domain.{Domain};
-    ghost use Rattle.constraint_files.specs.Pieces.{Fed};
+    ghost use Rattle.constraint_files.specs.LineReader.{FeedState};
 
-    ghost Value = { Fed (List Domain) };
+    ghost Value = { FeedState (List Domain) };
 
     ghost view = { λ r. r.lines };
 

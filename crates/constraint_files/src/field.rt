@@ -2,7 +2,7 @@
 ghost use Rattle.std.specs.Prelude.{◌≡◌, drop, if◌then◌else◌};
 ghost use Rattle.std.specs.Option.{ok_or, option_and_then};
 ghost use Rattle.csv.specs.Records.{field_at};
-ghost use Rattle.constraint_files.specs.Numbers.{is_channel, number, numbers};
+ghost use Rattle.constraint_files.specs.Field.{is_channel, number, numbers};
 ghost use Rattle.constraint_files.specs.Reads.{Takes};
 ghost use Rattle.constraint_files.specs.declared.error.RowWhy.TheVariants.{BadNumber};
 

@@ -2,7 +2,7 @@
 
 ghost use Rattle.std.specs.Prelude.{◌≡◌};
 ghost use Rattle.constraint_files.specs.Reads.{Takes};
-ghost use Rattle.constraint_files.specs.Rows.{interference_row, offset_of, row_on};
+ghost use Rattle.constraint_files.specs.PairTable.{interference_row, offset_of, row_on};
 
 use crate::error::{RowErr, RowWhy};
 use crate::field::{channel, number_at, numbers_from};

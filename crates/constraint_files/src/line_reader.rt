@@ -2,13 +2,13 @@
 //! records of each line to a table. Both constraint files are read with it.
 
 ghost use Rattle.std.specs.Prelude.{◌≡◌, ◌<◌, ◌+◌, ◌∷◌, ◌++◌, [], IfOk, Ok, false, length, true};
-ghost use Rattle.constraint_files.specs.Pieces.{begun_line, fed_if, fed_on, finished, has_end};
+ghost use Rattle.constraint_files.specs.LineReader.{begun_line, fed_unless_rejected, fed_on, finished, has_end};
 ghost use Rattle.constraint_files.specs.Reads.{Changes, Reads};
-ghost use Rattle.constraint_files.specs.Runs.{is_plain};
+ghost use Rattle.constraint_files.specs.PlainLines.{is_plain};
 ghost use Rattle.constraint_files.specs.Records.{after_lines, after_records, line_records, lines_of};
 
 use crate::error::{ReadErr, RowErr};
-use crate::plain_lines::{RunErr, add_records, is_plain, line_at, number_behind, one_more};
+use crate::plain_lines::{RecordsErr, add_records, is_plain, line_at, next_line_number, one_more};
 use crate::records::{records_of_line, split_line, split_whole};
 use crate::table::Table;
 use std::alloc::{AllocError as NoMemory, Global};
@@ -24,9 +24,9 @@ pub(crate) struct LineReader<T> {
 
 impl<T> Model for LineReader<T> {
     ghost use Rattle.std.specs.Prelude.{◌≡◌, false};
-    ghost use Rattle.constraint_files.specs.Pieces.{Fed, has_end};
+    ghost use Rattle.constraint_files.specs.LineReader.{FeedState, has_end};
 
-    ghost Value = { Fed T };
+    ghost Value = { FeedState T };
 
     ghost view = { λ r. record { made = r.table; begun = r.begun.items; line = r.number } };
 
@@ -58,7 +58,7 @@ impl<T: Table + Drop> LineReader<T> {
 
     /// Adds the records of these lines. The first line has the number of the unfinished line.
     fn add_lines(self, alloc: Global, bytes: &[u8]) -> Result<LineReader<T>, ReadErr>
-        ensures { Reads (fed_if (after_lines T.add self.made self.line (lines_of bytes.now)) self.begun (self.line + length (lines_of bytes.now))) result }
+        ensures { Reads (fed_unless_rejected (after_lines T.add self.made self.line (lines_of bytes.now)) self.begun (self.line + length (lines_of bytes.now))) result }
     {
         if is_plain(bytes) {
             return self.add_plain_lines(alloc, bytes);
@@ -69,7 +69,7 @@ impl<T: Table + Drop> LineReader<T> {
     /// Adds the records of these lines, which have no quotes, at once.
     fn add_plain_lines(self, alloc: Global, bytes: &[u8]) -> Result<LineReader<T>, ReadErr>
         requires { is_plain bytes.now ≡ true }
-        ensures { Reads (fed_if (after_lines T.add self.made self.line (lines_of bytes.now)) self.begun (self.line + length (lines_of bytes.now))) result }
+        ensures { Reads (fed_unless_rejected (after_lines T.add self.made self.line (lines_of bytes.now)) self.begun (self.line + length (lines_of bytes.now))) result }
     {
         let LineReader {
             table,
@@ -78,24 +78,24 @@ impl<T: Table + Drop> LineReader<T> {
         } = self;
         match add_records(alloc, table, bytes) {
             Ok(table) => {
-                let number = number_behind(number, bytes)?;
+                let number = next_line_number(number, bytes)?;
                 return Ok(LineReader {
                     table,
                     begun,
                     number,
                 });
             }
-            Err(RunErr::Refused { before, why }) => {
+            Err(RecordsErr::Refused { before, why }) => {
                 let line = line_at(alloc, number, before, bytes)?;
                 return Err(ReadErr::Row { line, why });
             }
-            Err(RunErr::NoMemory) => return Err(ReadErr::NoMemory),
+            Err(RecordsErr::NoMemory) => return Err(ReadErr::NoMemory),
         }
     }
 
     /// Adds the records of these lines, line by line.
     fn add_each_line(self, alloc: Global, bytes: &[u8]) -> Result<LineReader<T>, ReadErr>
-        ensures { Reads (fed_if (after_lines T.add self.made self.line (lines_of bytes.now)) self.begun (self.line + length (lines_of bytes.now))) result }
+        ensures { Reads (fed_unless_rejected (after_lines T.add self.made self.line (lines_of bytes.now)) self.begun (self.line + length (lines_of bytes.now))) result }
     {
         let LineReader {
             table,
@@ -137,7 +137,7 @@ impl<T: Table + Drop> LineReader<T> {
     fn end_line(self, alloc: Global, bytes: &[u8]) -> Result<LineReader<T>, ReadErr>
         requires begun { 0 < length self.begun }
         requires one { has_end bytes.now ≡ false }
-        ensures { Reads (fed_if (after_lines T.add self.made self.line ((self.begun ++ bytes.now) ∷ [])) [] (self.line + 1)) result }
+        ensures { Reads (fed_unless_rejected (after_lines T.add self.made self.line ((self.begun ++ bytes.now) ∷ [])) [] (self.line + 1)) result }
     {
         let LineReader {
             table,

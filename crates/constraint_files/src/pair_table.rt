@@ -5,7 +5,7 @@ ghost use Rattle.pack_defs.specs.declared.limits.TheConstants.{MOST_PAIRS};
 ghost use Rattle.pack_defs.specs.Lists.{is_in};
 ghost use Rattle.constraint_files.specs.Domains.{channels_of};
 ghost use Rattle.constraint_files.specs.Reads.{Changes};
-ghost use Rattle.constraint_files.specs.Rows.{add_row, add_row_over, pair_of, with_kept, with_other, with_pair};
+ghost use Rattle.constraint_files.specs.PairTable.{add_row, add_row_over, pair_of, with_kept, with_other, with_pair};
 
 use crate::domains::Domains;
 use crate::error::{RowErr, RowWhy};
@@ -33,7 +33,7 @@ pub(crate) struct PairTable {
 
 impl Model for PairTable {
     ghost use Rattle.std.specs.Prelude.{fold};
-    ghost use Rattle.constraint_files.specs.Rows.{PairsView, with_pair};
+    ghost use Rattle.constraint_files.specs.PairTable.{PairsView, with_pair};
 
     ghost Value = { PairsView };
 
@@ -62,7 +62,7 @@ fn pair_of(station: u32, a: u8, other: u32, b: u8) -> Pair
 }
 
 /// Checks whether a row's channel is in the domain of its station; `None` if the station has no domain.
-fn own_channel(domains: &Domains, row: &Row) -> Option<bool>
+fn is_own_channel(domains: &Domains, row: &Row) -> Option<bool>
     ensures { result ≡ option_map (λ c. is_in c row.now.channel) (channels_of domains.now row.now.station) }
 {
     match domains.domain(row.station) {
@@ -177,7 +177,7 @@ impl PairTable {
     fn add_row(&mut self, domains: &Domains, row: &Row) -> Result<(), NoMemory>
         ensures { OnOk result (self.new ≡ fold (with_other domains.now row.now) self.old row.now.others) }
     {
-        let own = own_channel(domains, row);
+        let own = is_own_channel(domains, row);
         for other in row.others.as_slice() {
             self.add_other(domains, row, own, *other)?;
         }
@@ -202,7 +202,7 @@ impl PairTable {
     }
 
     /// Moves the recent pairs into the tree, and returns the number of its pairs.
-    fn settle(&mut self, alloc: Global) -> Result<usize, NoMemory>
+    fn merge_last(&mut self, alloc: Global) -> Result<usize, NoMemory>
         ensures same { OnOk result (self.new ≡ self.old) }
         ensures count { IfOk result (λ n. n ≡ length self.old.list) }
     {
@@ -220,7 +220,7 @@ impl PairTable {
         if count <= MOST_PAIRS && self.tree.len() <= MOST_PAIRS - count {
             return Ok(false);
         }
-        Ok(self.settle(alloc)? > MOST_PAIRS)
+        Ok(self.merge_last(alloc)? > MOST_PAIRS)
     }
 
     /// Returns the pairs, ascending, and the counts.
@@ -246,16 +246,16 @@ pub(crate) struct PairsOver<'a> {
 }
 
 impl<'a> Model for PairsOver<'a> {
-    ghost use Rattle.constraint_files.specs.Rows.{RowsView};
+    ghost use Rattle.constraint_files.specs.PairTable.{RowsView};
 
     ghost Value = { RowsView };
 
-    ghost view = { λ p. record { domains = p.domains.now; told = p.table } };
+    ghost view = { λ p. record { domains = p.domains.now; pairs_view = p.table } };
 }
 
 impl<'a> PairsOver<'a> {
     pub(crate) fn new(alloc: Global, domains: &'a Domains) -> PairsOver<'a>
-        ensures { result ≡ record { domains = domains.now; told = record { list = []; self_pairs = 0; strangers = 0 } } }
+        ensures { result ≡ record { domains = domains.now; pairs_view = record { list = []; self_pairs = 0; strangers = 0 } } }
     {
         PairsOver {
             domains,
@@ -265,7 +265,7 @@ impl<'a> PairsOver<'a> {
 
     /// Returns the table of the pairs.
     pub(crate) fn into_table(self) -> PairTable
-        ensures { result ≡ self.entry.told }
+        ensures { result ≡ self.entry.pairs_view }
     {
         self.table
     }

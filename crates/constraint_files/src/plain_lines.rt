@@ -5,8 +5,8 @@ ghost use Rattle.std.specs.Prelude.{◌≡◌, ◌+◌, IfOk, length};
 ghost use Rattle.csv.specs.Records.{fields_of};
 ghost use Rattle.constraint_files.specs.Reads.{Changes};
 ghost use Rattle.constraint_files.specs.Records.{lines_of};
-ghost use Rattle.constraint_files.specs.Runs.{Runs, RunsNext, after_raw, is_plain, is_special, line_number_at, raw_records};
-ghost use Rattle.constraint_files.specs.declared.plain_lines.RunErr.TheVariants.{NoMemory as NoRoom};
+ghost use Rattle.constraint_files.specs.PlainLines.{Runs, RunsNext, after_raw, is_plain, is_special, line_number_at, raw_records};
+ghost use Rattle.constraint_files.specs.declared.plain_lines.RecordsErr.TheVariants.{NoMemory as NoRoom};
 
 use crate::error::{RowErr, RowWhy};
 use crate::record::CsvRecord;
@@ -17,18 +17,18 @@ use std::alloc::{AllocError as NoMemory, Global};
 
 /// Why records were not added.
 #[derive(Clone, Copy)]
-pub(crate) enum RunErr {
+pub(crate) enum RecordsErr {
     /// A record is invalid: the first one, which has this many records before it.
     Refused { before: u64, why: RowWhy },
     /// Memory ran out.
     NoMemory,
 }
 
-impl From<NoMemory> for RunErr {
+impl From<NoMemory> for RecordsErr {
     ghost from_gives = { λ _ e. e ≡ NoRoom };
 
-    fn from(_e: NoMemory) -> RunErr {
-        RunErr::NoMemory
+    fn from(_e: NoMemory) -> RecordsErr {
+        RecordsErr::NoMemory
     }
 }
 
@@ -77,13 +77,13 @@ fn add_next<T: Table>(
     table: &mut T,
     row: ByteRecord,
     before: u64,
-) -> Result<u64, RunErr>
+) -> Result<u64, RecordsErr>
     ensures { RunsNext T.add table.old (fields_of row) before table.new result }
 {
     match add_row(alloc, table, row) {
         Ok(()) => Ok(one_more(before)?),
-        Err(RowErr::Refused(why)) => Err(RunErr::Refused { before, why }),
-        Err(RowErr::NoMemory) => Err(RunErr::NoMemory),
+        Err(RowErr::Refused(why)) => Err(RecordsErr::Refused { before, why }),
+        Err(RowErr::NoMemory) => Err(RecordsErr::NoMemory),
     }
 }
 
@@ -92,7 +92,7 @@ pub(crate) fn add_records<T: Table + Drop>(
     alloc: Global,
     table: T,
     bytes: &[u8],
-) -> Result<T, RunErr>
+) -> Result<T, RecordsErr>
     ensures { Runs T.add table (raw_records bytes.now) result }
 {
     let reader = ReaderBuilder::new()
@@ -103,7 +103,7 @@ pub(crate) fn add_records<T: Table + Drop>(
     let mut before: u64 = 0;
     for row in reader.into_byte_records() {
         let Ok(row) = row else {
-            return Err(RunErr::NoMemory);
+            return Err(RecordsErr::NoMemory);
         };
         before = add_next(alloc, &mut table, row, before)?;
     }
@@ -111,7 +111,7 @@ pub(crate) fn add_records<T: Table + Drop>(
 }
 
 /// Returns the line number after the last of these lines, the first of which has this number.
-pub(crate) fn number_behind(number: u64, bytes: &[u8]) -> Result<u64, NoMemory>
+pub(crate) fn next_line_number(number: u64, bytes: &[u8]) -> Result<u64, NoMemory>
     ensures { IfOk result (λ n. n ≡ number + length (lines_of bytes.now)) }
 {
     let mut number = number;

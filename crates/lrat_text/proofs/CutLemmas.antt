@@ -6,7 +6,7 @@ use Rattle.std.proofs.lemmas.List.{drop_at, map-append, take_at}
 use Rattle.clause_db.specs.declared.lit.Lit.{Lit}
 use Rattle.rup_check.specs.declared.line.Line.{Line}
 use Rattle.lrat_text.specs.Lines.{line_of}
-use Rattle.lrat_text.specs.LogText.{lit_text, log_fields, spaced}
+use Rattle.lrat_text.specs.Write.{lit_text, log_fields, spaced}
 use Rattle.lrat_text.proofs.WriteLemmas.{log-line-parts, spaced-append}
 
 -- Whether the new text is the old one with a first part of `whole` after it.

@@ -6,7 +6,7 @@ use Rattle.std.specs.Str.Parse.{digits_value}
 use Rattle.std.proofs.lemmas.Bool.{and_right, lt-leb, le-leb}
 use Rattle.std.proofs.lemmas.List.Recursion.{and_fails_at}
 use Rattle.pack_defs.proofs.Digits.{value-take}
-use Rattle.lrat_text.specs.LogReading.{natural}
+use Rattle.lrat_text.specs.Read.{natural}
 
 -- A byte that is no digit.
 pub bad-digit : (most : ℕ) (field : List ℕ) (i : ℕ) → i < length field → is_ascii_digit (get_or field i 0) ≡ false → natural most field ≡ None

@@ -8,8 +8,8 @@ use Rattle.std.proofs.lemmas.Bool.{and_parts, leb-true, le-leb, lt-leb, lt-ltb, 
 use Rattle.pack_defs.specs.Lists.{is_empty}
 use Rattle.clause_db.specs.declared.lit.Lit.{Lit}
 use Rattle.rup_check.specs.declared.line.Line.{Line}
-use Rattle.lrat_text.specs.LogText.{greatest, lit_text, zero_field, log_fields, IsLitSpelled, IsBefore}
-use Rattle.lrat_text.specs.LogReading.{log_lits_at, place_in, hint_place, log_hints_at, is_next, with_line, behind_d, after_words}
+use Rattle.lrat_text.specs.Write.{greatest, lit_text, zero_field, log_fields, IsLitSpelled, IsBefore}
+use Rattle.lrat_text.specs.Read.{log_lits_at, place_in, hint_place, log_hints_at, is_next, with_line, after_deletion_mark, after_words}
 use Rattle.lrat_text.proofs.LineLemmas.{AreFields, fields-append}
 use Rattle.lrat_text.proofs.NumberLemmas.{all-digits, decimal-field, decimal-not-empty, number-again, zero-again, lit-again, lit-field}
 
@@ -101,7 +101,7 @@ lit-is-no-d l h = go l.positive refl
     go true e = rw e (number-is-no-letter 100 l.var (omega arith) (omega (arith, h.1)))
     go false e = rw e refl
 
-no-deletion : (lits : List Lit) (rest : List (List ℕ)) → AllByRecursion IsLitSpelled lits → behind_d (map lit_text lits ++ zero_field ∷ rest) ≡ None
+no-deletion : (lits : List Lit) (rest : List (List ℕ)) → AllByRecursion IsLitSpelled lits → after_deletion_mark (map lit_text lits ++ zero_field ∷ rest) ≡ None
 no-deletion [] rest h = refl
 no-deletion (l ∷ lits) rest h = rw (lit-is-no-d l h.0) refl
 

@@ -10,9 +10,9 @@ use Rattle.clause_db.specs.Clause.{opposite, clause_at}
 use Rattle.rup_check.specs.declared.line.Line.{Line}
 use Rattle.rup_check.specs.declared.error.LineErr.{LineErr}
 use Rattle.rup_check.specs.declared.error.LineErr.TheVariants.{BadLits}
-use Rattle.rup_check.specs.Follows.{has_bad_lits, end_fault, after_hint, fault_or, hints_fault, line_fault, lines_fault, Follows}
+use Rattle.rup_check.specs.Follows.{has_bad_lits, last_hint_fault, after_hint, fault_or, hints_fault, line_fault, lines_fault, Follows}
 use Rattle.rup_check.proofs.Sound.{lines-next}
-use Rattle.lrat_text.specs.LogText.{greatest, IsBefore, IsLitSpelled, AreSpelled}
+use Rattle.lrat_text.specs.Write.{greatest, IsBefore, IsLitSpelled, AreSpelled}
 
 clause-named : (clauses : List (List Lit)) (n : ℕ) (c : List Lit) → clause_at clauses n ≡ Some c → IsBefore (length clauses + 1) n
 clause-named [] n c e = absurd cc
@@ -31,7 +31,7 @@ is-there clauses h f = go (clause_at clauses h) refl
 absurd-some : (why : LineErr) → Some why ≡ None → ⊥
 absurd-some why e = cc
 
-end-names : (known : List Lit) (place : ℕ) (o : Option (List Lit)) → end_fault known place o ≡ None → o ≡ None → ⊥
+end-names : (known : List Lit) (place : ℕ) (o : Option (List Lit)) → last_hint_fault known place o ≡ None → o ≡ None → ⊥
 end-names known place None e q = cc
 end-names known place (Some c) e q = cc
 

@@ -8,8 +8,8 @@ use Rattle.std.proofs.lemmas.Fmt.{decimal_nonempty, digits_decimal, digits_value
 use Rattle.pack_defs.specs.Lists.{is_empty}
 use Rattle.clause_db.specs.declared.lit.Lit.{Lit}
 use Rattle.lrat_text.specs.declared.field.Field.TheVariants.{End, Number}
-use Rattle.lrat_text.specs.LogText.{greatest, lit_text, zero_field, IsLitSpelled}
-use Rattle.lrat_text.specs.LogReading.{natural, field_of, signed_of}
+use Rattle.lrat_text.specs.Write.{greatest, lit_text, zero_field, IsLitSpelled}
+use Rattle.lrat_text.specs.Read.{natural, field_of, signed_of}
 use Rattle.lrat_text.proofs.LineLemmas.{IsWord, IsField}
 use Rattle.pack_defs.proofs.Words.{not-empty}
 use Rattle.pack_defs.proofs.Digits.{own-numerals}

@@ -16,10 +16,10 @@ use Rattle.lrat_text.specs.declared.error.LratErr.TheVariants.{Truncated, BadLin
 use Rattle.lrat_text.specs.declared.field.Field.{Field}
 use Rattle.lrat_text.specs.declared.field.Field.TheVariants.{End, Number}
 use Rattle.pack_defs.specs.Steps.{◌>>=◌}
-use Rattle.lrat_text.specs.Lines.{ended_lines, is_whole, onto_first_line, with_spaces, words_of, without_return, line_of}
-use Rattle.lrat_text.specs.LogText.{greatest, lit_text, zero_field, log_fields, log_text}
-use Rattle.lrat_text.specs.LogReading.{LogRead, natural, signed_of, field_of, log_lits_at, log_lits_or, place_in, hint_place, place_or, log_hints_at, log_hints_or, with_line, after_words, after_log_lines, log_of, log_read, nothing_read}
-use Rattle.lrat_text.specs.OneSpelling.{has_no_nought, is_shortest, IsNumberedLine, ArePlain}
+use Rattle.lrat_text.specs.Lines.{ended_lines, is_whole, prepend_to_first_line, with_spaces, words_of, without_return, line_of}
+use Rattle.lrat_text.specs.Write.{greatest, lit_text, zero_field, log_fields, log_text}
+use Rattle.lrat_text.specs.Read.{LogRead, natural, signed_of, field_of, log_lits_at, log_lits_or, place_in, hint_place, place_or, log_hints_at, log_hints_or, with_line, after_words, after_log_lines, log_of, log_read, empty_log_read}
+use Rattle.lrat_text.specs.OneSpelling.{has_no_leading_zero, is_shortest, IsNumberedLine, ArePlain}
 use Rattle.lrat_text.proofs.LogLemmas.{run, run-more, is-next, not-letter}
 use Rattle.lrat_text.proofs.NumberLemmas.{digits-signed}
 use Rattle.pack_defs.proofs.Digits.{own-numerals}
@@ -30,7 +30,7 @@ use Rattle.pack_defs.proofs.Words.{some-length}
 abbrev pub ended : List (List ℕ) → List ℕ
 ended lines = flat_map (λ line. line ++ 10 ∷ []) lines
 
-onto-ended : (c d : ℕ) (rest : List ℕ) (lines : List (List ℕ)) → ended lines ≡ d ∷ rest → ended (onto_first_line c lines) ≡ c ∷ d ∷ rest
+onto-ended : (c d : ℕ) (rest : List ℕ) (lines : List (List ℕ)) → ended lines ≡ d ∷ rest → ended (prepend_to_first_line c lines) ≡ c ∷ d ∷ rest
 onto-ended c d rest [] e = absurd cc
 onto-ended c d rest (line ∷ lines) e = ap (λ (r : List ℕ). c ∷ r) e
 
@@ -68,7 +68,7 @@ natural-is most word n e =
     let more = and_parts (all_ascii_digits word) (nat_le (digits_value 10 word) most) parts.1 in
     record { some = not-true _ parts.0; digits = more.0; within = leb-true _ most more.1; value = both.1 }
 
-lone : (word : List ℕ) → has_no_nought word ≡ true → get_or word 0 0 ≡ 48 → is_empty word ≡ false → length word ≡ 1
+lone : (word : List ℕ) → has_no_leading_zero word ≡ true → get_or word 0 0 ≡ 48 → is_empty word ≡ false → length word ≡ 1
 lone [] h e s = absurd cc
 lone (c ∷ []) h e s = refl
 lone (c ∷ d ∷ rest) h e s = absurd (differ (not-true (c == 48) h) (eq-eqb c 48 e))
@@ -77,7 +77,7 @@ lone (c ∷ d ∷ rest) h e s = absurd (differ (not-true (c == 48) h) (eq-eqb c 
     differ p q = cc
 
 -- A number's word without leading zeros is what is written of the number.
-pub word-of-natural : (word : List ℕ) (n : ℕ) → natural greatest word ≡ Some n → has_no_nought word ≡ true → word ≡ decimal n
+pub word-of-natural : (word : List ℕ) (n : ℕ) → natural greatest word ≡ Some n → has_no_leading_zero word ≡ true → word ≡ decimal n
 word-of-natural word n e h =
     let is = natural-is greatest word n e in
     let again = decimal-digits_value own-numerals word is.digits (some-length word is.some) (λ z. lone word h z is.some) (omega (arith, is.within)) in
@@ -114,10 +114,10 @@ unfolding field_of is_shortest
 written [] h = tt
 written (c ∷ rest) h = elim (cases_eq c 45) [
   | inl e ↦
-      let short : has_no_nought rest ≡ true = rw (eq-eqb c 45 e) at h in
+      let short : has_no_leading_zero rest ≡ true = rw (eq-eqb c 45 e) at h in
       rw (eq-eqb c 45 e) (negative-written (c ∷ rest) rest (natural greatest rest) (ap (λ (x : ℕ). x ∷ rest) e) (λ n q. word-of-natural rest n q short))
   | inr ne ↦
-      let short : has_no_nought (c ∷ rest) ≡ true = rw (ne_eqb c 45 ne) at h in
+      let short : has_no_leading_zero (c ∷ rest) ≡ true = rw (ne_eqb c 45 ne) at h in
       rw (ne_eqb c 45 ne) (positive-written (c ∷ rest) (natural greatest (c ∷ rest)) (λ n q. word-of-natural (c ∷ rest) n q short))
 ]
 
@@ -253,7 +253,7 @@ number-said word number low e =
 no-comment : (word : List ℕ) (number : ℕ) → natural greatest word ≡ Some number → bytes_eq word (codes "c") ≡ false
 no-comment word number e = let is = natural-is greatest word number e in not-letter 99 word (omega arith) is.digits is.some
 
-digits-short : (word : List ℕ) → all_ascii_digits word ≡ true → is_shortest word ≡ has_no_nought word
+digits-short : (word : List ℕ) → all_ascii_digits word ≡ true → is_shortest word ≡ has_no_leading_zero word
 unfolding is_shortest
 digits-short [] h = refl
 digits-short (c ∷ rest) h =
@@ -318,15 +318,15 @@ lines-said n clauses k before (line ∷ lines) state e plain = go (after_words n
     next-number = omega arith
 
     more : (next : LogRead) → IsLineSaid clauses k before (words_of (without_return line)) next → ((before : List Line) → after_log_lines (n + 1) clauses (record { numbers = run (clauses + 1) (suc k); lines = before }) lines ≡ Ok state → AreLinesSaid (clauses + 1 + suc k) before lines state) → after_log_lines (n + 1) clauses next lines ≡ Ok state → AreLinesSaid (clauses + 1 + k) before (line ∷ lines) state
-    more next said rec e =
-        let rest = rec (before ++ said.line ∷ []) (rw said.next_is at e) in
-        let first : line ≡ with_spaces (log_fields (clauses + 1 + k) said.line) = plain.0.spaced ∙ ap with_spaces said.words_are in
+    more next parsed rec e =
+        let rest = rec (before ++ parsed.line ∷ []) (rw parsed.next_is at e) in
+        let first : line ≡ with_spaces (log_fields (clauses + 1 + k) parsed.line) = plain.0.spaced ∙ ap with_spaces parsed.words_are in
         record {
-          more = said.line ∷ rest.more;
-          lines_are = rest.lines_are ∙ append_assoc before (said.line ∷ []) rest.more;
+          more = parsed.line ∷ rest.more;
+          lines_are = rest.lines_are ∙ append_assoc before (parsed.line ∷ []) rest.more;
           text =
               ap (λ (l : List ℕ). (l ++ 10 ∷ []) ++ ended lines) first
-              ∙ ap (λ (t : List ℕ). line_of (log_fields (clauses + 1 + k) said.line) ++ t) (rest.text ∙ ap (λ (m : ℕ). log_text m rest.more) (sym next-number));
+              ∙ ap (λ (t : List ℕ). line_of (log_fields (clauses + 1 + k) parsed.line) ++ t) (rest.text ∙ ap (λ (m : ℕ). log_text m rest.more) (sym next-number));
         }
 
     go : (r : Result LogRead LratErr) → after_words n clauses (record { numbers = run (clauses + 1) k; lines = before }) (words_of (without_return line)) ≡ r → ((before : List Line) → after_log_lines (n + 1) clauses (record { numbers = run (clauses + 1) (suc k); lines = before }) lines ≡ Ok state → AreLinesSaid (clauses + 1 + suc k) before lines state)
@@ -342,13 +342,13 @@ plain-said clauses text log plain e = whole (is_whole text) refl e
     first : clauses + 1 ≡ clauses + 1 + 0
     first = omega arith
 
-    said : is_whole text ≡ true → (r : Result LogRead LratErr) → after_log_lines 1 clauses nothing_read (ended_lines text) ≡ r → (r >>= log_read) ≡ Ok log → text ≡ log_text (clauses + 1) log.lines
-    said w (Err why) q e = absurd (err-ok _ _ e)
-    said w (Ok state) q e =
+    parsed : is_whole text ≡ true → (r : Result LogRead LratErr) → after_log_lines 1 clauses empty_log_read (ended_lines text) ≡ r → (r >>= log_read) ≡ Ok log → text ≡ log_text (clauses + 1) log.lines
+    parsed w (Err why) q e = absurd (err-ok _ _ e)
+    parsed w (Ok state) q e =
         let are = lines-said 1 clauses 0 [] (ended_lines text) state q (subst (λ m. ArePlain m (ended_lines text)) first plain) in
         let lines : state.lines ≡ log.lines = ap (λ (l : Log). l.lines) (let same : record { lines = state.lines } ≡ log = cc in same) in
         sym (whole-text text w) ∙ are.text ∙ ap (λ (m : ℕ). log_text m are.more) (sym first) ∙ ap (λ (ls : List Line). log_text (clauses + 1) ls) (sym are.lines_are ∙ lines)
 
-    whole : (b : Bool) → is_whole text ≡ b → (if b then (after_log_lines 1 clauses nothing_read (ended_lines text) >>= log_read) else Err Truncated) ≡ Ok log → text ≡ log_text (clauses + 1) log.lines
+    whole : (b : Bool) → is_whole text ≡ b → (if b then (after_log_lines 1 clauses empty_log_read (ended_lines text) >>= log_read) else Err Truncated) ≡ Ok log → text ≡ log_text (clauses + 1) log.lines
     whole false w e = absurd (err-ok _ _ e)
-    whole true w e = said w (after_log_lines 1 clauses nothing_read (ended_lines text)) refl e
+    whole true w e = parsed w (after_log_lines 1 clauses empty_log_read (ended_lines text)) refl e

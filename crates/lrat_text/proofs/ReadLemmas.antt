@@ -9,7 +9,7 @@ use Rattle.pack_defs.specs.Lists.{is_ascending, is_empty, is_in}
 use Rattle.pack_defs.proofs.Words.{ascending-rest, after-first}
 use Rattle.lrat_text.specs.declared.error.LratErr.TheVariants.{Truncated, BadLine, RatStep, NoMemory}
 use Rattle.lrat_text.specs.declared.field.Field.TheVariants.{End, Number}
-use Rattle.lrat_text.specs.LogReading.{LogRead, after_words, after_log_lines, log_of, log_read, nothing_read, field_of, log_lits_at, hint_at, log_hints_at, log_hints_or, is_next, place_in, deleted_at, deleted_or}
+use Rattle.lrat_text.specs.Read.{LogRead, after_words, after_log_lines, log_of, log_read, empty_log_read, field_of, log_lits_at, hint_at, log_hints_at, log_hints_or, is_next, place_in, deleted_at, deleted_or}
 use Rattle.clause_db.specs.declared.lit.Lit.{Lit}
 use Rattle.lrat_text.specs.declared.error.LratErr.{LratErr}
 use Rattle.pack_defs.specs.Steps.{◌>>=◌}
@@ -204,7 +204,7 @@ unfolding log_of
 log-cut text clauses h = rw h refl
 
 -- A text of complete lines.
-pub log-whole : (text : List ℕ) (clauses : ℕ) → is_whole text ≡ true → log_of text clauses ≡ (after_log_lines 1 clauses nothing_read (ended_lines text) >>= log_read)
+pub log-whole : (text : List ℕ) (clauses : ℕ) → is_whole text ≡ true → log_of text clauses ≡ (after_log_lines 1 clauses empty_log_read (ended_lines text) >>= log_read)
 unfolding log_of
 log-whole text clauses h = rw h refl
 
@@ -220,19 +220,19 @@ lines-none n clauses state lines e = rw e refl
 
 -- The complete reading, from a state on the way: at its end, and at an error of its next line.
 pub log-end : (text : List ℕ) (clauses n : ℕ) (state : LogRead) (lines : List (List ℕ)) → is_whole text ≡ true → lines ≡ []
-    → after_log_lines n clauses state lines ≡ after_log_lines 1 clauses nothing_read (ended_lines text) → log_of text clauses ≡ log_read state
+    → after_log_lines n clauses state lines ≡ after_log_lines 1 clauses empty_log_read (ended_lines text) → log_of text clauses ≡ log_read state
 log-end text clauses n state lines w e h = log-whole text clauses w ∙ ap (λ r. r >>= log_read) (sym h ∙ lines-none n clauses state lines e)
 
 pub log-stops : (text : List ℕ) (clauses n : ℕ) (state : LogRead) (line : List ℕ) (lines more : List (List ℕ)) (e : LratErr) → is_whole text ≡ true → lines ≡ line ∷ more
-    → after_log_lines n clauses state lines ≡ after_log_lines 1 clauses nothing_read (ended_lines text)
+    → after_log_lines n clauses state lines ≡ after_log_lines 1 clauses empty_log_read (ended_lines text)
     → LogFails e (after_words n clauses state (words_of (without_return line))) → LogFails e (log_of text clauses)
 log-stops text clauses n state line lines more e w step h fails =
     let here = fails-on (λ next. after_log_lines (n + 1) clauses next more) e (after_words n clauses state (words_of (without_return line))) (after_log_lines n clauses state lines) (lines-step n clauses state line lines more step) fails in
     fails-on log_read e (after_log_lines n clauses state lines) (log_of text clauses) (log-whole text clauses w ∙ ap (λ r. r >>= log_read) (sym h)) here
 
 pub log-goes-on : (text : List ℕ) (clauses n : ℕ) (state next : LogRead) (line : List ℕ) (lines more : List (List ℕ)) → lines ≡ line ∷ more
-    → after_log_lines n clauses state lines ≡ after_log_lines 1 clauses nothing_read (ended_lines text)
+    → after_log_lines n clauses state lines ≡ after_log_lines 1 clauses empty_log_read (ended_lines text)
     → after_words n clauses state (words_of (without_return line)) ≡ Ok next
-    → after_log_lines (n + 1) clauses next more ≡ after_log_lines 1 clauses nothing_read (ended_lines text)
+    → after_log_lines (n + 1) clauses next more ≡ after_log_lines 1 clauses empty_log_read (ended_lines text)
 log-goes-on text clauses n state next line lines more step h read =
     sym (lines-step n clauses state line lines more step ∙ ap (λ r. r >>= λ next. after_log_lines (n + 1) clauses next more) read) ∙ h

@@ -4,8 +4,8 @@ use Rattle.std.proofs.lemmas.List.{append-nil, append_assoc}
 use Rattle.rup_check.specs.declared.line.Line.{Line}
 use Rattle.pack_defs.specs.Steps.{◌>>=◌}
 use Rattle.lrat_text.specs.Lines.{ended_lines, is_whole}
-use Rattle.lrat_text.specs.LogText.{log_fields, log_text, AreSpelled}
-use Rattle.lrat_text.specs.LogReading.{after_log_lines, log_of, log_read, nothing_read}
+use Rattle.lrat_text.specs.Write.{log_fields, log_text, AreSpelled}
+use Rattle.lrat_text.specs.Read.{after_log_lines, log_of, log_read, empty_log_read}
 use Rattle.lrat_text.proofs.LineLemmas.{fields-line, is-whole-fields, words-again}
 use Rattle.lrat_text.proofs.LogLemmas.{run, line-fields, line-again}
 
@@ -36,4 +36,4 @@ pub log-again : (clauses : ℕ) (lines : List Line) → AreSpelled (clauses + 1)
 unfolding log_of
 log-again clauses lines h =
     let e : clauses + 1 ≡ clauses + 1 + 0 = omega arith in
-    rw (is-whole-log (clauses + 1) lines) (subst (λ m. (after_log_lines 1 clauses nothing_read (ended_lines (log_text m lines)) >>= log_read) ≡ Ok (record { lines = lines })) (sym e) (lines-again 1 clauses 0 [] lines (subst (λ m. AreSpelled m lines) e h)))
+    rw (is-whole-log (clauses + 1) lines) (subst (λ m. (after_log_lines 1 clauses empty_log_read (ended_lines (log_text m lines)) >>= log_read) ≡ Ok (record { lines = lines })) (sym e) (lines-again 1 clauses 0 [] lines (subst (λ m. AreSpelled m lines) e h)))

@@ -14,9 +14,9 @@ use Rattle.lrat_text.specs.declared.field.Field.{Field}
 use Rattle.lrat_text.specs.declared.field.Field.TheVariants.{End, Number}
 use Rattle.pack_defs.specs.Steps.{◌>>=◌}
 use Rattle.lrat_text.specs.Lines.{ended_lines, is_whole, words_of, without_return}
-use Rattle.lrat_text.specs.LogText.{greatest}
-use Rattle.lrat_text.specs.LogReading.{LogRead, natural, field_of, log_lits_at, log_lits_or, place_in, place_or, hint_place, hint_at, log_hints_at, log_hints_or, is_next, number_or, with_line, deleted_at, deletion, behind_d, by_second, after_words, after_log_lines, log_of, log_read, nothing_read}
-use Rattle.lrat_text.specs.WholeText.{is_passed_over, kept_lines, literal_field, number_field, end_field, line_says, lines_say, number_in_text, IsWholeText}
+use Rattle.lrat_text.specs.Write.{greatest}
+use Rattle.lrat_text.specs.Read.{LogRead, natural, field_of, log_lits_at, log_lits_or, place_in, place_or, hint_place, hint_at, log_hints_at, log_hints_or, is_next, number_or, with_line, deleted_at, deletion, after_deletion_mark, by_second_word, after_words, after_log_lines, log_of, log_read, empty_log_read}
+use Rattle.lrat_text.specs.WholeText.{is_passed_over, kept_lines, literal_field, number_field, end_field, line_has_words, lines_have_words, number_in_text, IsWholeText}
 use Rattle.lrat_text.proofs.OneSpelling.{err-ok, ok-same, none-some, empty-is}
 use Rattle.lrat_text.proofs.ReadLemmas.{next-rises}
 
@@ -154,11 +154,11 @@ pub record IsKept (clauses : ℕ) (ns : List ℕ) (before : List Line) (words : 
   pub line : Line
   pub same : next ≡ record { numbers = ns ++ number ∷ []; lines = before ++ line ∷ [] }
   pub rising : is_ascending (clauses ∷ ns ++ number ∷ []) ≡ true
-  pub says : (tail : List ℕ) → map field_of words ≡ line_says (number_in_text clauses (ns ++ tail)) number line
+  pub says : (tail : List ℕ) → map field_of words ≡ line_has_words (number_in_text clauses (ns ++ tail)) number line
 
 -- Whether the number of a line is the meaning of its first word, and may be the next.
 pub record IsNumber (clauses : ℕ) (ns : List ℕ) (word : List ℕ) (number : ℕ) : Type 0 where
-  pub said : field_of word ≡ number_field number
+  pub parsed : field_of word ≡ number_field number
   pub next : is_next clauses ns number ≡ true
 
 pub number-whole : (n clauses : ℕ) (ns : List ℕ) (word : List ℕ) (number : ℕ) → number_or n clauses ns (field_of word) ≡ Ok number → IsNumber clauses ns word number
@@ -169,7 +169,7 @@ number-whole n clauses ns word number e = go (field_of word) refl e
     tested l true q f e =
         let same = ok-same l.var number e in
         let parts = and_parts l.positive (is_next clauses ns l.var) q in
-        record { said = f ∙ positive-is l number parts.0 same; next = rw (← same) parts.1 }
+        record { parsed = f ∙ positive-is l number parts.0 same; next = rw (← same) parts.1 }
 
     go : (o : Option Field) → field_of word ≡ o → number_or n clauses ns o ≡ Ok number → IsNumber clauses ns word number
     go None f e = absurd (err-ok _ _ e)
@@ -193,7 +193,7 @@ with-line-whole n clauses ns before word words next e up kept = number (number_o
       same = sym (ok-same (record { numbers = ns ++ k ∷ []; lines = before ++ record { lits = x.0; hints = hs } ∷ [] }) next e);
       rising = next-rises clauses ns k up is.next;
       says = λ tail.
-          ap (λ (o : Option Field). o ∷ map field_of words) is.said
+          ap (λ (o : Option Field). o ∷ map field_of words) is.parsed
           ∙ ap (λ (t : List (Option Field)). number_field k ∷ t) (are ∙ ap (λ (t : List (Option Field)). map literal_field x.0 ++ end_field ∷ t) (hints-whole n clauses ns tail x.1 hs q));
     }
 
@@ -227,15 +227,15 @@ unfolding after_words
 line-whole n clauses ns before [] next e up = inl (record { over = refl; same = sym (ok-same (record { numbers = ns; lines = before }) next e) })
 line-whole n clauses ns before (word ∷ words) next e up = comment (bytes_eq word (codes "c")) refl e
   where
-    second : bytes_eq word (codes "c") ≡ false → (o : Option (List (List ℕ))) → behind_d words ≡ o → by_second n clauses (record { numbers = ns; lines = before }) word words o ≡ Ok next
+    second : bytes_eq word (codes "c") ≡ false → (o : Option (List (List ℕ))) → after_deletion_mark words ≡ o → by_second_word n clauses (record { numbers = ns; lines = before }) word words o ≡ Ok next
         → IsPassed ns before (word ∷ words) next ⊎ IsKept clauses ns before (word ∷ words) next
     second c None d e = inr (with-line-whole n clauses ns before word words next e up (rw (c, d) refl))
     second c (Some gone) d e = inl (record { over = rw (c, d) refl; same = deletion-whole n (record { numbers = ns; lines = before }) word gone next e })
 
-    comment : (b : Bool) → bytes_eq word (codes "c") ≡ b → (if b then Ok (record { numbers = ns; lines = before }) else by_second n clauses (record { numbers = ns; lines = before }) word words (behind_d words)) ≡ Ok next
+    comment : (b : Bool) → bytes_eq word (codes "c") ≡ b → (if b then Ok (record { numbers = ns; lines = before }) else by_second_word n clauses (record { numbers = ns; lines = before }) word words (after_deletion_mark words)) ≡ Ok next
         → IsPassed ns before (word ∷ words) next ⊎ IsKept clauses ns before (word ∷ words) next
     comment true c e = inl (record { over = rw c refl; same = sym (ok-same (record { numbers = ns; lines = before }) next e) })
-    comment false c e = second c (behind_d words) refl e
+    comment false c e = second c (after_deletion_mark words) refl e
 
 -- ---- lines
 
@@ -246,7 +246,7 @@ pub record AreWhole (clauses : ℕ) (ns : List ℕ) (before : List Line) (lines 
   pub many : length numbers ≡ length more
   pub same : state ≡ record { numbers = ns ++ numbers; lines = before ++ more }
   pub rising : is_ascending (clauses ∷ ns ++ numbers) ≡ true
-  pub says : map (map field_of) (kept_lines lines) ≡ lines_say (number_in_text clauses (ns ++ numbers)) numbers more
+  pub says : map (map field_of) (kept_lines lines) ≡ lines_have_words (number_in_text clauses (ns ++ numbers)) numbers more
 
 over-lines : (line : List ℕ) (lines : List (List ℕ)) → is_passed_over (words_of (without_return line)) ≡ true → kept_lines (line ∷ lines) ≡ kept_lines lines
 unfolding kept_lines
@@ -271,8 +271,8 @@ join-kept clauses ns before line lines next state kept rest =
       says =
           ap (map (map field_of)) (kept-line line lines kept.kept)
           ∙ ap (λ (f : List (Option Field)). f ∷ map (map field_of) (kept_lines lines)) (kept.says (kept.number ∷ rest.numbers))
-          ∙ ap (λ (t : List (List (Option Field))). line_says (number_in_text clauses (ns ++ kept.number ∷ rest.numbers)) kept.number kept.line ∷ t)
-          (rest.says ∙ ap (λ (all : List ℕ). lines_say (number_in_text clauses all) rest.numbers rest.more) numbers);
+          ∙ ap (λ (t : List (List (Option Field))). line_has_words (number_in_text clauses (ns ++ kept.number ∷ rest.numbers)) kept.number kept.line ∷ t)
+          (rest.says ∙ ap (λ (all : List ℕ). lines_have_words (number_in_text clauses all) rest.numbers rest.more) numbers);
     }
 
 pub lines-whole : (n clauses : ℕ) (ns : List ℕ) (before : List Line) (lines : List (List ℕ)) (state : LogRead)
@@ -317,18 +317,18 @@ pub text-whole : (clauses : ℕ) (text : List ℕ) (log : Log) → log_of text c
 unfolding log_of
 text-whole clauses text log e = whole (is_whole text) e
   where
-    said : (r : Result LogRead LratErr) → after_log_lines 1 clauses nothing_read (ended_lines text) ≡ r → (r >>= log_read) ≡ Ok log → IsWholeText clauses text log
-    said (Err why) q e = absurd (err-ok _ _ e)
-    said (Ok state) q e =
+    parsed : (r : Result LogRead LratErr) → after_log_lines 1 clauses empty_log_read (ended_lines text) ≡ r → (r >>= log_read) ≡ Ok log → IsWholeText clauses text log
+    parsed (Err why) q e = absurd (err-ok _ _ e)
+    parsed (Ok state) q e =
         let are = lines-whole 1 clauses [] [] (ended_lines text) state q refl in
         let lines : are.more ≡ log.lines = sym (ap (λ s. s.lines) are.same) ∙ ap (λ (l : Log). l.lines) (ok-same (record { lines = state.lines }) log e) in
         record {
           numbers = are.numbers;
           many = are.many ∙ ap (λ (ls : List Line). length ls) lines;
           rising = are.rising;
-          said = are.says ∙ ap (λ (ls : List Line). lines_say (number_in_text clauses are.numbers) are.numbers ls) lines;
+          parsed = are.says ∙ ap (λ (ls : List Line). lines_have_words (number_in_text clauses are.numbers) are.numbers ls) lines;
         }
 
-    whole : (b : Bool) → (if b then (after_log_lines 1 clauses nothing_read (ended_lines text) >>= log_read) else Err Truncated) ≡ Ok log → IsWholeText clauses text log
+    whole : (b : Bool) → (if b then (after_log_lines 1 clauses empty_log_read (ended_lines text) >>= log_read) else Err Truncated) ≡ Ok log → IsWholeText clauses text log
     whole false e = absurd (err-ok _ _ e)
-    whole true e = said (after_log_lines 1 clauses nothing_read (ended_lines text)) refl e
+    whole true e = parsed (after_log_lines 1 clauses empty_log_read (ended_lines text)) refl e

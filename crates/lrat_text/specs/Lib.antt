@@ -1,7 +1,7 @@
 pub mod Examples
 pub mod Lines
-pub mod LogText
+pub mod Write
 pub mod Steps
-pub mod LogReading
+pub mod Read
 pub mod OneSpelling
 pub mod WholeText

@@ -3,24 +3,24 @@ use Rattle.std.specs.Prelude.{ℕ, Bool, true, not, ◌≡◌, ◌+◌, ◌==◌
 use Rattle.std.specs.List.{list_all}
 use Rattle.pack_defs.specs.Lists.{is_empty}
 use Rattle.lrat_text.specs.Lines.{with_spaces, without_return, words_of}
-use Rattle.lrat_text.specs.LogText.{greatest}
-use Rattle.lrat_text.specs.LogReading.{behind_d, natural}
+use Rattle.lrat_text.specs.Write.{greatest}
+use Rattle.lrat_text.specs.Read.{after_deletion_mark, natural}
 
 -- Whether the digits are a single one, or do not begin with 0.
-abbrev pub has_no_nought : List ℕ → Bool
-has_no_nought [] = true
-has_no_nought (c ∷ rest) = is_empty rest || not (c == 48)
+abbrev pub has_no_leading_zero : List ℕ → Bool
+has_no_leading_zero [] = true
+has_no_leading_zero (c ∷ rest) = is_empty rest || not (c == 48)
 
 -- Whether a number has no leading zero, neither at its start nor after a minus sign.
 unfoldable pub is_shortest : List ℕ → Bool
 is_shortest [] = true
-is_shortest (c ∷ rest) = if c == 45 then has_no_nought rest else has_no_nought (c ∷ rest)
+is_shortest (c ∷ rest) = if c == 45 then has_no_leading_zero rest else has_no_leading_zero (c ∷ rest)
 
 -- Whether the first word spells this number and the second is no `d`, so that the line is neither a comment nor a
 -- deletion.
 abbrev pub IsNumberedLine : ℕ → List (List ℕ) → Type 0
 IsNumberedLine number [] = ⊥
-IsNumberedLine number (word ∷ words) = (natural greatest word ≡ Some number) × (behind_d words ≡ None)
+IsNumberedLine number (word ∷ words) = (natural greatest word ≡ Some number) × (after_deletion_mark words ≡ None)
 
 -- Whether a line is nothing but its words, separated by single spaces and without leading zeros, and its first word
 -- spells this number.

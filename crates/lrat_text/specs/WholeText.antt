@@ -8,12 +8,12 @@ use Rattle.rup_check.specs.declared.line.Log.{Log}
 use Rattle.lrat_text.specs.declared.field.Field.{Field}
 use Rattle.lrat_text.specs.declared.field.Field.TheVariants.{End, Number}
 use Rattle.lrat_text.specs.Lines.{ended_lines, without_return, words_of}
-use Rattle.lrat_text.specs.LogReading.{behind_d, field_of}
+use Rattle.lrat_text.specs.Read.{after_deletion_mark, field_of}
 
 -- Whether the line is empty, a comment or a deletion.
 abbrev pub is_passed_over : List (List ℕ) → Bool
 is_passed_over [] = true
-is_passed_over (word ∷ words) = bytes_eq word (codes "c") || is_some (behind_d words)
+is_passed_over (word ∷ words) = bytes_eq word (codes "c") || is_some (after_deletion_mark words)
 
 -- The words of each line that is not skipped.
 unfoldable pub kept_lines : List (List ℕ) → List (List (List ℕ))
@@ -32,15 +32,15 @@ abbrev pub end_field : Option Field
 end_field = Some End
 
 -- The meanings of the words of a log's line: its number, its literals, 0, the numbers of what its hints name, 0.
-abbrev pub line_says : (ℕ → ℕ) → ℕ → Line → List (Option Field)
-line_says named number line =
+abbrev pub line_has_words : (ℕ → ℕ) → ℕ → Line → List (Option Field)
+line_has_words named number line =
     number_field number ∷ (map literal_field line.lits ++ end_field ∷ (map (λ place. number_field (named place)) line.hints ++ end_field ∷ []))
 
 -- The meanings of the words of lines with these numbers.
-abbrev pub lines_say : (ℕ → ℕ) → List ℕ → List Line → List (List (Option Field))
-lines_say named [] lines = []
-lines_say named (number ∷ numbers) [] = []
-lines_say named (number ∷ numbers) (line ∷ lines) = line_says named number line ∷ lines_say named numbers lines
+abbrev pub lines_have_words : (ℕ → ℕ) → List ℕ → List Line → List (List (Option Field))
+lines_have_words named [] lines = []
+lines_have_words named (number ∷ numbers) [] = []
+lines_have_words named (number ∷ numbers) (line ∷ lines) = line_has_words named number line ∷ lines_have_words named numbers lines
 
 -- The number that the text has for a place: a clause's place, or the number of a line.
 abbrev pub number_in_text : ℕ → List ℕ → ℕ → ℕ
@@ -52,4 +52,4 @@ pub record IsWholeText (clauses : ℕ) (text : List ℕ) (log : Log) : Type 0 wh
   pub numbers : List ℕ
   pub many : length numbers ≡ length log.lines
   pub rising : is_ascending (clauses ∷ numbers) ≡ true
-  pub said : map (map field_of) (kept_lines (ended_lines text)) ≡ lines_say (number_in_text clauses numbers) numbers log.lines
+  pub parsed : map (map field_of) (kept_lines (ended_lines text)) ≡ lines_have_words (number_in_text clauses numbers) numbers log.lines

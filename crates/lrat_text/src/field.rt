@@ -1,7 +1,7 @@
 //! Reads numbers from fields, digit by digit and without a copy.
 
 ghost use Rattle.std.specs.Prelude.{◌≡◌};
-ghost use Rattle.lrat_text.specs.LogReading.{field_of, natural, signed_field};
+ghost use Rattle.lrat_text.specs.Read.{field_of, natural, signed_field};
 
 use clause_db::lit::Lit;
 
@@ -57,7 +57,7 @@ fn signed(positive: bool, n: u64) -> Option<Field>
 
 /// Returns the meaning of a field of a log's line. The field may have a minus sign. Returns `None` if it is no number
 /// up to [`GREATEST`].
-#[tactic(auto, unfolding(crate::specs::LogReading::field_of))]
+#[tactic(auto, unfolding(crate::specs::Read::field_of))]
 pub fn field_of(field: &[u8]) -> Option<Field>
     ensures { result ≡ field_of field.now }
 {

@@ -10,12 +10,12 @@ ghost use Rattle.lrat_text.specs.declared.error.LratErr.TheVariants.{BadLine, Ra
 ghost use Rattle.lrat_text.specs.Examples.{two_lines, two_lines_text};
 ghost use Rattle.lrat_text.specs.Lines.{ended_lines};
 ghost use Rattle.lrat_text.specs.OneSpelling.{ArePlain};
-ghost use Rattle.lrat_text.specs.LogText.{AreSpelled, greatest, log_text};
-ghost use Rattle.lrat_text.specs.LogReading.{log_of};
+ghost use Rattle.lrat_text.specs.Write.{AreSpelled, greatest, log_text};
+ghost use Rattle.lrat_text.specs.Read.{log_of};
 ghost use Rattle.lrat_text.specs.WholeText.{IsWholeText};
 
 /// The text of a refutation of three stations on two channels, written and read, and some texts that are rejected.
-pub fn texts_of_three_stations()
+pub fn prove_texts_of_three_stations()
     ensures written { log_text 13 two_lines ≡ two_lines_text }
     ensures read { log_of two_lines_text 12 ≡ Ok (record { lines = two_lines }) }
     ensures rat { log_of (codes "13 -1 0 -7 2 0\n") 12 ≡ Err (RatStep 1) }
@@ -25,28 +25,28 @@ pub fn texts_of_three_stations()
 {}
 
 /// A log that is written with its lines numbered after the clauses is read back as itself.
-pub fn a_written_log_is_read()
+pub fn prove_written_log_is_read()
     ensures { (clauses : ℕ) (lines : List Line) → AreSpelled (clauses + 1) lines → log_of (log_text (clauses + 1) lines) clauses ≡ Ok (record { lines = lines }) }
 {}
 
 /// A log that is read accounts for the complete text. Only empty lines, comments and deletions are skipped; every
 /// word of every other line is in the log.
-pub fn a_log_is_the_whole_text()
+pub fn prove_log_is_complete_text()
     ensures { (clauses : ℕ) (text : List ℕ) (log : Log) → log_of text clauses ≡ Ok log → IsWholeText clauses text log }
 {}
 
 /// Two plain texts of the same log are the same bytes, those that are written of the log. A text is plain if its
 /// lines are numbered after the clauses and have nothing but their words; no byte of it is skipped.
-pub fn a_plain_text_is_what_is_written()
+pub fn prove_plain_text_is_written()
     ensures { (clauses : ℕ) (text : List ℕ) (log : Log) → ArePlain (clauses + 1) (ended_lines text) → log_of text clauses ≡ Ok log → text ≡ log_text (clauses + 1) log.lines }
 {}
 
 /// A log whose lines follow can be written, if its numbers fit a text.
-pub fn a_log_that_follows_is_spelled()
+pub fn prove_following_log_is_spelled()
     ensures { (vars : ℕ) (clauses : List (List Lit)) (lines : List Line) → Follows vars clauses lines → vars ≤ greatest → length clauses + length lines ≤ greatest → AreSpelled (length clauses + 1) lines }
 {}
 
 /// So a log whose lines follow is read back from its text as itself.
-pub fn a_log_that_follows_is_read_again()
+pub fn prove_following_log_round_trip()
     ensures { (vars : ℕ) (clauses : List (List Lit)) (lines : List Line) → Follows vars clauses lines → vars ≤ greatest → length clauses + length lines ≤ greatest → log_of (log_text (length clauses + 1) lines) (length clauses) ≡ Ok (record { lines = lines }) }
 {}

@@ -1,4 +1,4 @@
-//! Reads the text of a log in LRAT's format. `read_log` goes line by line. `line_said` distinguishes comments,
+//! Reads the text of a log in LRAT's format. `read_log` goes line by line. `parse_line` distinguishes comments,
 //! deletions and lines of the log. `log_line` reads a line of the log: a number, literals up to a 0, and hints up to
 //! another 0. The numbers of the lines read so far are kept, because a hint names a line by its number and a `Log` by
 //! its place.
@@ -8,7 +8,7 @@ ghost use Rattle.std.specs.List.{slice_get};
 ghost use Rattle.rup_check.specs.declared.line.Line.{Line};
 ghost use Rattle.pack_defs.specs.Lists.{is_empty};
 ghost use Rattle.lrat_text.specs.Lines.{without_return, words_of};
-ghost use Rattle.lrat_text.specs.LogReading.{AreLineNumbers, LogRead, after_words, behind_d, deleted_at, deletion, field_of, hint_at, hint_place, log_hints_at, is_next, log_lits_at, log_of, number_or, read_more, with_line};
+ghost use Rattle.lrat_text.specs.Read.{AreLineNumbers, LogRead, after_words, after_deletion_mark, deleted_at, deletion, field_of, hint_at, hint_place, log_hints_at, is_next, log_lits_at, log_of, number_or, read_more, with_line};
 ghost use Rattle.lrat_text.specs.Steps.{LogGives};
 
 use crate::error::LratErr;
@@ -21,7 +21,7 @@ use std::alloc::{AllocError as NoMemory, Global};
 use std::marker::Model;
 
 // Whether a line has no word.
-fn is_bare(words: &[u8]) -> bool
+fn is_blank_line(words: &[u8]) -> bool
     ensures { result ≡ is_empty (words_of words.now) }
 {
     match next_word(words) {
@@ -61,7 +61,7 @@ pub(crate) fn deleted(n: u64, words: &[u8]) -> Result<(), LratErr>
                 }
             }
             Some(Field::End) => {
-                if is_bare(rest) {
+                if is_blank_line(rest) {
                     return Ok(());
                 }
                 return Err(LratErr::BadLine { n });
@@ -73,7 +73,7 @@ pub(crate) fn deleted(n: u64, words: &[u8]) -> Result<(), LratErr>
 }
 
 // Whether this number is at this place.
-fn stands_at(numbers: &[u64], place: u64, number: u64) -> bool
+fn is_at_place(numbers: &[u64], place: u64, number: u64) -> bool
     ensures { MatchBool result (slice_get numbers.now place ≡ Some number) (slice_get numbers.now place ≡ Some number → ⊥) }
 {
     match numbers.get(place as usize) {
@@ -92,7 +92,7 @@ pub(crate) fn hint_place(clauses: u64, numbers: &[u64], h: u64) -> Option<u64>
         return Some(h);
     }
     // Unless a number was skipped, a line's number is its place; this saves the binary search.
-    if stands_at(numbers, h - clauses - 1, h) {
+    if is_at_place(numbers, h - clauses - 1, h) {
         return Some(h);
     }
     match numbers.binary_search(&h) {
@@ -137,7 +137,7 @@ pub(crate) fn hints_of(
                 Err(why) => return Err(why),
             },
             Some(Field::End) => {
-                if is_bare(rest) {
+                if is_blank_line(rest) {
                     return Ok(());
                 }
                 return Err(LratErr::BadLine { n });
@@ -191,7 +191,7 @@ fn number_of(n: u64, clauses: u64, numbers: &[u64], word: &[u8]) -> Result<u64, 
 }
 
 // Reads a line of the log from line `n` of the text. Returns its number, and leaves the rest in `scratch`.
-#[tactic(auto, unfolding(crate::specs::LogReading::with_line))]
+#[tactic(auto, unfolding(crate::specs::Read::with_line))]
 fn log_line(
     n: u64,
     clauses: u64,
@@ -211,7 +211,7 @@ fn log_line(
 }
 
 // Checks a deletion on line `n`: the word before `d`, and the words after it. A deletion changes nothing.
-#[tactic(auto, unfolding(crate::specs::LogReading::deletion))]
+#[tactic(auto, unfolding(crate::specs::Read::deletion))]
 fn deletion(n: u64, word: &[u8], words: &[u8]) -> Result<(), LratErr>
     ensures { (state : LogRead) → LogGives (λ u. state) (deletion n state word.now (words_of words.now)) result }
 {
@@ -222,8 +222,8 @@ fn deletion(n: u64, word: &[u8], words: &[u8]) -> Result<(), LratErr>
 }
 
 // Returns what follows a `d`, if that is the first word.
-fn behind_d(words: &[u8]) -> Option<&[u8]>
-    ensures { MatchOption result (behind_d (words_of words.now) ≡ None) (λ rest. behind_d (words_of words.now) ≡ Some (words_of rest.now)) }
+fn after_deletion_mark(words: &[u8]) -> Option<&[u8]>
+    ensures { MatchOption result (after_deletion_mark (words_of words.now) ≡ None) (λ rest. after_deletion_mark (words_of words.now) ≡ Some (words_of rest.now)) }
 {
     let Some((word, rest)) = next_word(words) else {
         return None;
@@ -236,8 +236,8 @@ fn behind_d(words: &[u8]) -> Option<&[u8]>
 
 // Reads line `n` of the text. For a line of the log, returns its number and leaves the rest in `scratch`; for any
 // other line, returns `None`.
-#[tactic(auto, unfolding(crate::specs::LogReading::after_words))]
-fn line_said(
+#[tactic(auto, unfolding(crate::specs::Read::after_words))]
+fn parse_line(
     n: u64,
     clauses: u64,
     numbers: &[u64],
@@ -245,7 +245,7 @@ fn line_said(
     scratch: &mut Scratch,
 ) -> Result<Option<u64>, LratErr>
     requires { AreLineNumbers clauses numbers.now }
-    ensures said { (lines : List Line) → LogGives (read_more (record { numbers = numbers.now; lines = lines }) (record { lits = scratch.new.lits.items; hints = scratch.new.hints.items })) (after_words n clauses (record { numbers = numbers.now; lines = lines }) (words_of line.now)) result }
+    ensures parsed { (lines : List Line) → LogGives (read_more (record { numbers = numbers.now; lines = lines }) (record { lits = scratch.new.lits.items; hints = scratch.new.hints.items })) (after_words n clauses (record { numbers = numbers.now; lines = lines }) (words_of line.now)) result }
     ensures rises { IfOk result (λ x. IfSome x (λ y. AreLineNumbers clauses (numbers.now ++ y ∷ []))) }
 {
     let Some((word, words)) = next_word(line) else {
@@ -254,7 +254,7 @@ fn line_said(
     if word == b"c".as_slice() {
         return Ok(None);
     }
-    if let Some(deleted) = behind_d(words) {
+    if let Some(deleted) = after_deletion_mark(words) {
         deletion(n, word, deleted)?;
         return Ok(None);
     }
@@ -264,14 +264,14 @@ fn line_said(
 
 // What was read so far of a log.
 #[derive(Drop)]
-struct SoFar {
+struct LogSoFar {
     // The numbers of its lines.
     numbers: Vec<u64>,
     lines: Lines,
 }
 
-impl Model for SoFar {
-    ghost use Rattle.lrat_text.specs.LogReading.{LogRead};
+impl Model for LogSoFar {
+    ghost use Rattle.lrat_text.specs.Read.{LogRead};
 
     ghost Value = { LogRead };
 
@@ -279,38 +279,38 @@ impl Model for SoFar {
 }
 
 // Appends the line that was read, if there is one; `scratch` has its literals and hints.
-fn with_said(
+fn with_parsed_line(
     numbers: Vec<u64>,
     lines: Lines,
-    said: Option<u64>,
+    parsed: Option<u64>,
     scratch: &Scratch,
-) -> Result<SoFar, NoMemory>
-    ensures { IfOk result (λ new. new ≡ read_more (record { numbers = numbers.items; lines = lines }) (record { lits = scratch.now.lits.items; hints = scratch.now.hints.items }) said) }
+) -> Result<LogSoFar, NoMemory>
+    ensures { IfOk result (λ new. new ≡ read_more (record { numbers = numbers.items; lines = lines }) (record { lits = scratch.now.lits.items; hints = scratch.now.hints.items }) parsed) }
 {
     let mut numbers = numbers;
     let mut lines = lines;
-    if let Some(number) = said {
+    if let Some(number) = parsed {
         numbers.push(number)?;
         lines.push(&scratch.lits, &scratch.hints)?;
     }
-    Ok(SoFar { numbers, lines })
+    Ok(LogSoFar { numbers, lines })
 }
 
 // Returns what was read, including line `n` of the text.
 fn after_line(
     n: u64,
     clauses: u64,
-    so_far: SoFar,
+    so_far: LogSoFar,
     line: &[u8],
     scratch: &mut Scratch,
-) -> Result<SoFar, LratErr>
+) -> Result<LogSoFar, LratErr>
     requires { AreLineNumbers clauses so_far.numbers }
     ensures read { LogGives (λ new. new) (after_words n clauses so_far (words_of (without_return line.now))) result }
     ensures rises { IfOk result (λ new. AreLineNumbers clauses new.numbers) }
 {
-    let SoFar { numbers, lines } = so_far;
-    match line_said(n, clauses, &numbers, without_return(line), scratch) {
-        Ok(said) => match with_said(numbers, lines, said, scratch) {
+    let LogSoFar { numbers, lines } = so_far;
+    match parse_line(n, clauses, &numbers, without_return(line), scratch) {
+        Ok(parsed) => match with_parsed_line(numbers, lines, parsed, scratch) {
             Ok(new) => Ok(new),
             Err(_) => Err(LratErr::NoMemory),
         },
@@ -333,7 +333,7 @@ pub fn read_log(alloc: Global, text: &[u8], clauses: u64) -> Result<Log, LratErr
     if !is_whole(text) {
         return Err(LratErr::Truncated);
     }
-    let mut so_far = SoFar {
+    let mut so_far = LogSoFar {
         numbers: Vec::new(alloc),
         lines: Lines::new(alloc),
     };

@@ -2,7 +2,7 @@
 
 ghost use Rattle.std.specs.Prelude.{◌≡◌, ◌+◌, ◌≤◌, ◌^◌, ◌++◌, ℕ, IfOk, OnErr, OnOk, decimal, length, map, take};
 ghost use Rattle.lrat_text.specs.Lines.{line_of};
-ghost use Rattle.lrat_text.specs.LogText.{clause_fields, dimacs_text, formula_header, lit_text, log_fields, log_text, spaced};
+ghost use Rattle.lrat_text.specs.Write.{clause_fields, dimacs_text, formula_header, lit_text, log_fields, log_text, spaced};
 
 use clause_db::list::ClauseList;
 use clause_db::lit::Lit;

@@ -4,7 +4,7 @@ use Rattle.std.specs.Str.{bytes_eq}
 use Rattle.std.proofs.lemmas.Bool.{false_from_ne_true}
 use Rattle.std.proofs.lemmas.List.{take_more, drop_more, take-append-drop, set_split, append-nil}
 use Rattle.std.proofs.lemmas.Slice.Eq.{bytes_eq-Decides}
-use Rattle.outside_io.specs.Files.{StoredFile, bytes_of, IsPlace, with_file, Puts, OthersStand}
+use Rattle.outside_io.specs.Files.{StoredFile, bytes_of, IsPlace, with_file, Puts, OthersUnchanged}
 
 -- a name equals itself, and no other name
 same_name : (a b : List ℕ) → a ≡ b → bytes_eq a b ≡ true
@@ -93,7 +93,7 @@ holds (x ∷ xs) name bytes =
     go (bytes_eq x.name name) refl
 
 -- every other file is unchanged
-others : (xs : List StoredFile) (name bytes : List ℕ) → OthersStand xs (with_file xs name bytes) name
+others : (xs : List StoredFile) (name bytes : List ℕ) → OthersUnchanged xs (with_file xs name bytes) name
 others [] name bytes other h = rw (other_name name other (λ e. h (sym e))) refl
 others (x ∷ xs) name bytes other h =
     let go : (b : Bool) → bytes_eq x.name name ≡ b → bytes_of (cond b (record { name = name; bytes = bytes } ∷ xs) (x ∷ with_file xs name bytes)) other ≡ bytes_of (x ∷ xs) other =

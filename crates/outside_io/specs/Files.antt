@@ -14,13 +14,13 @@ bytes_of [] name = None
 bytes_of (x ∷ xs) name = if bytes_eq x.name name then Some x.bytes else bytes_of xs name
 
 -- Whether all files, except the one of this name, are unchanged.
-abbrev pub OthersStand : List StoredFile → List StoredFile → List ℕ → Type 0
-OthersStand old new name = (other : List ℕ) → other ≢ name → bytes_of new other ≡ bytes_of old other
+abbrev pub OthersUnchanged : List StoredFile → List StoredFile → List ℕ → Type 0
+OthersUnchanged old new name = (other : List ℕ) → other ≢ name → bytes_of new other ≡ bytes_of old other
 
 -- Whether the file of this name has these contents, and all others are unchanged.
 pub record Puts (old new : List StoredFile) (name bytes : List ℕ) : Type 0 where
   pub holds : bytes_of new name ≡ Some bytes
-  pub others : OthersStand old new name
+  pub others : OthersUnchanged old new name
 
 -- Whether the first file of this name is at this index.
 pub record IsPlace (files : List StoredFile) (name : List ℕ) (index : ℕ) : Type 0 where

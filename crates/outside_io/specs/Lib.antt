@@ -1,8 +1,8 @@
 pub mod Files
-pub mod Told
+pub mod Models
 pub mod Faults
 pub mod Loads
-pub mod Groups
+pub mod StoreAll
 pub mod Pieces
 pub mod Memory
 pub mod Real

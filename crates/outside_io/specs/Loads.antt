@@ -4,8 +4,8 @@ use Rattle.outside_io.specs.declared.folder.LoadErr.{LoadErr}
 use Rattle.outside_io.specs.declared.folder.LoadErr.TheVariants.{Failed, TooLong, NoMemory}
 use Rattle.outside_io.specs.declared.folder.StoreErr.{StoreErr}
 use Rattle.outside_io.specs.declared.sink.Failed.{Failed as WriteFailed}
-use Rattle.outside_io.specs.Files.{StoredFile, bytes_of, OthersStand, Puts}
-use Rattle.outside_io.specs.Told.{FolderTold}
+use Rattle.outside_io.specs.Files.{StoredFile, bytes_of, OthersUnchanged, Puts}
+use Rattle.outside_io.specs.Models.{FolderModel}
 
 -- What a load of a modelled file returns. If it succeeds, it returns the file's bytes, which are within the limit. `TooLong` means
 -- that they are not. A name without a file is never loaded.
@@ -21,12 +21,12 @@ LoadsFile None limit (Err NoMemory) into = ⊤
 
 -- What a load returns; nothing is said of a folder that is not modelled.
 abbrev pub Loads : Option (List StoredFile) → List ℕ → ℕ → Result (Unit {0}) LoadErr → List ℕ → Type 0
-Loads told name limit result into = MatchOption told ⊤ (λ files. LoadsFile (bytes_of files name) limit result into)
+Loads modelled name limit result into = MatchOption modelled ⊤ (λ files. LoadsFile (bytes_of files name) limit result into)
 
 -- Whether a load or `begin` does not return `Failed`, if the folder is steady and modelled and has the file.
-abbrev pub FindsWhatIsThere : FolderTold → List ℕ → Result (Unit {0}) LoadErr → Type 0
-FindsWhatIsThere told name result = (files : List StoredFile) (bytes : List ℕ) →
-    told.steady ≡ true → told.files ≡ Some files → bytes_of files name ≡ Some bytes → result ≢ Err Failed
+abbrev pub FindsExisting : FolderModel → List ℕ → Result (Unit {0}) LoadErr → Type 0
+FindsExisting modelled name result = (files : List StoredFile) (bytes : List ℕ) →
+    modelled.steady ≡ true → modelled.files ≡ Some files → bytes_of files name ≡ Some bytes → result ≢ Err Failed
 
 -- What a store leaves in a modelled folder: the bytes under the name, and all other files unchanged. After an error the name may
 -- hold anything, or be gone. A folder that is not modelled stays so.
@@ -35,7 +35,7 @@ Stores None None name bytes result = ⊤
 Stores None (Some new) name bytes result = ⊥
 Stores (Some old) None name bytes result = ⊥
 Stores (Some old) (Some new) name bytes result =
-    MatchResult result (λ u. Puts old new name bytes) (λ e. OthersStand old new name)
+    MatchResult result (λ u. Puts old new name bytes) (λ e. OthersUnchanged old new name)
 
 -- What a write leaves in a modelled sink: the old bytes and then the new ones. After an error some of the new ones, from the first
 -- on, may have been written. A sink that is not modelled stays so.

@@ -3,7 +3,7 @@ use Rattle.std.specs.Prelude.{ℕ, Bool, List}
 use Rattle.outside_io.specs.Files.{StoredFile}
 
 -- The file that is open for pieces: its bytes that are left, how many were read, and its limit.
-pub record BegunView : Type 0 where
+pub record PieceFileView : Type 0 where
   pub left : List ℕ
   pub come : ℕ
   pub most : ℕ
@@ -11,7 +11,7 @@ pub record BegunView : Type 0 where
 -- A folder in memory: its files, the open file, the count of faults, and whether no call is to fail.
 pub record FolderView : Type 0 where
   pub files : List StoredFile
-  pub begun : BegunView
+  pub begun : PieceFileView
   pub faults : ℕ
   pub steady : Bool
 

@@ -31,18 +31,18 @@ Begins None name limit (Err NoMemory) left = ⊤
 
 -- What `piece` returns, given the bytes left before and after it. A modelled file returns its next bytes, as many as a piece may
 -- have, and is never too long. For a file that is not modelled, no bytes mean its end; a piece with bytes leaves it open.
-abbrev pub HandsOut : Option (List ℕ) → Option (List ℕ) → Result (Unit {0}) LoadErr → List ℕ → Type 0
-HandsOut (Some left) after (Ok u) into = (into ≡ take piece_size left) × (after ≡ Some (drop piece_size left))
-HandsOut (Some left) after (Err Failed) into = ⊤
-HandsOut (Some left) after (Err TooLong) into = ⊥
-HandsOut (Some left) after (Err NoMemory) into = ⊤
-HandsOut None after (Ok u) into = (into ≡ [] → after ≡ Some []) × (into ≢ [] → after ≡ None)
-HandsOut None after (Err why) into = ⊤
+abbrev pub GivesPiece : Option (List ℕ) → Option (List ℕ) → Result (Unit {0}) LoadErr → List ℕ → Type 0
+GivesPiece (Some left) after (Ok u) into = (into ≡ take piece_size left) × (after ≡ Some (drop piece_size left))
+GivesPiece (Some left) after (Err Failed) into = ⊤
+GivesPiece (Some left) after (Err TooLong) into = ⊥
+GivesPiece (Some left) after (Err NoMemory) into = ⊤
+GivesPiece None after (Ok u) into = (into ≡ [] → after ≡ Some []) × (into ≢ [] → after ≡ None)
+GivesPiece None after (Err why) into = ⊤
 
 -- Whether, in a modelled folder, the bytes read so far and those that are left make up the file of this name.
-abbrev pub HandedSoFar : Option (List StoredFile) → List ℕ → List ℕ → Option (List ℕ) → Type 0
-HandedSoFar told name done left = MatchOption told ⊤ (λ files. (rest : List ℕ) × (left ≡ Some rest) × (bytes_of files name ≡ Some (done ++ rest)))
+abbrev pub GaveSoFar : Option (List StoredFile) → List ℕ → List ℕ → Option (List ℕ) → Type 0
+GaveSoFar modelled name done left = MatchOption modelled ⊤ (λ files. (rest : List ℕ) × (left ≡ Some rest) × (bytes_of files name ≡ Some (done ++ rest)))
 
 -- Whether, in a modelled folder, these bytes are the complete file of this name.
-abbrev pub HandedAll : Option (List StoredFile) → List ℕ → List ℕ → Type 0
-HandedAll told name done = MatchOption told ⊤ (λ files. bytes_of files name ≡ Some done)
+abbrev pub GaveAll : Option (List StoredFile) → List ℕ → List ℕ → Type 0
+GaveAll modelled name done = MatchOption modelled ⊤ (λ files. bytes_of files name ≡ Some done)

@@ -1,10 +1,10 @@
 //! The files that a program reads and stores: the trait `Folder`, and why a call of it fails.
 ghost use Rattle.std.specs.Prelude.{◌≡◌, ◌≢◌, ◌<◌, ◌≤◌, ◌+◌, ℕ, [], List, Option, true, Some, IfErr, OnErr, OnOk, length, map};
 ghost use Rattle.outside_io.specs.Faults.{HasRisen};
-ghost use Rattle.outside_io.specs.Groups.{AreAllStored, StopsAt, stored_file};
-ghost use Rattle.outside_io.specs.Loads.{FindsWhatIsThere, Loads, Stores};
-ghost use Rattle.outside_io.specs.Pieces.{Begins, HandsOut, piece_size};
-ghost use Rattle.outside_io.specs.Told.{FolderTold};
+ghost use Rattle.outside_io.specs.StoreAll.{AreAllStored, StopsAt, stored_file};
+ghost use Rattle.outside_io.specs.Loads.{FindsExisting, Loads, Stores};
+ghost use Rattle.outside_io.specs.Pieces.{Begins, GivesPiece, piece_size};
+ghost use Rattle.outside_io.specs.Models.{FolderModel};
 
 use std::alloc::AllocError;
 
@@ -77,7 +77,7 @@ impl Unstored {
 /// stores do not disturb it.
 pub trait Folder {
     /// The files of a modelled folder, the count of faults, and whether the outside never fails.
-    ghost told: { Self → FolderTold };
+    ghost modelled: { Self → FolderModel };
 
     /// The bytes of the open file that are still to be read, in a modelled folder. If no file is open, no bytes are left in any
     /// folder.
@@ -91,37 +91,37 @@ pub trait Folder {
 
     /// Loads a file of at most `limit` bytes into `into`, which is empty after an error.
     fn load(&mut self, name: &str, limit: u64, into: &mut Vec<u8>) -> Result<(), LoadErr>
-        ensures told { Loads (told self.old).files name.now limit result into.new.items }
+        ensures modelled { Loads (modelled self.old).files name.now limit result into.new.items }
         ensures within { OnOk result (length into.new.items ≤ limit) }
         ensures empty { OnErr result (into.new.items ≡ []) }
-        ensures files { (told self.new).files ≡ (told self.old).files }
-        ensures counted { (told self.old).faults ≤ (told self.new).faults }
-        ensures failed { result ≡ Err LoadErr.Failed → HasRisen (told self.old).faults (told self.new).faults }
-        ensures uncounted { result ≢ Err LoadErr.Failed → (told self.new).faults ≡ (told self.old).faults }
+        ensures files { (modelled self.new).files ≡ (modelled self.old).files }
+        ensures counted { (modelled self.old).faults ≤ (modelled self.new).faults }
+        ensures failed { result ≡ Err LoadErr.Failed → HasRisen (modelled self.old).faults (modelled self.new).faults }
+        ensures faults_unchanged { result ≢ Err LoadErr.Failed → (modelled self.new).faults ≡ (modelled self.old).faults }
         ensures left { left self.new ≡ left self.old }
         ensures come { come self.new ≡ come self.old }
         ensures most { most self.new ≡ most self.old }
-        ensures steady { (told self.new).steady ≡ (told self.old).steady }
-        ensures surely { FindsWhatIsThere (told self.old) name.now result };
+        ensures steady { (modelled self.new).steady ≡ (modelled self.old).steady }
+        ensures steady_never_fails { FindsExisting (modelled self.old) name.now result };
 
     /// Replaces the contents of the file of this name by these bytes, or makes the file. After an error that file may hold
     /// anything, or be gone; other files are unchanged.
     fn store(&mut self, name: &str, bytes: &[u8]) -> Result<(), StoreErr>
-        ensures told { Stores (told self.old).files (told self.new).files name.now bytes.now result }
-        ensures counted { (told self.old).faults ≤ (told self.new).faults }
-        ensures failed { result ≡ Err StoreErr.Failed → HasRisen (told self.old).faults (told self.new).faults }
-        ensures uncounted { result ≢ Err StoreErr.Failed → (told self.new).faults ≡ (told self.old).faults }
+        ensures modelled { Stores (modelled self.old).files (modelled self.new).files name.now bytes.now result }
+        ensures counted { (modelled self.old).faults ≤ (modelled self.new).faults }
+        ensures failed { result ≡ Err StoreErr.Failed → HasRisen (modelled self.old).faults (modelled self.new).faults }
+        ensures faults_unchanged { result ≢ Err StoreErr.Failed → (modelled self.new).faults ≡ (modelled self.old).faults }
         ensures left { left self.new ≡ left self.old }
         ensures come { come self.new ≡ come self.old }
         ensures most { most self.new ≡ most self.old }
-        ensures steady { (told self.new).steady ≡ (told self.old).steady }
-        ensures surely { (told self.old).steady ≡ true → result ≢ Err StoreErr.Failed };
+        ensures steady { (modelled self.new).steady ≡ (modelled self.old).steady }
+        ensures steady_never_fails { (modelled self.old).steady ≡ true → result ≢ Err StoreErr.Failed };
 
     /// Stores these files in order, each as `store` does, up to the first that cannot be stored. If the folder is not modelled, no
     /// contract says when each file appears.
     fn store_all(&mut self, files: &[NewFile<'_>]) -> Result<(), Unstored>
-        ensures stored { OnOk result (AreAllStored (map stored_file files.now) (told self.old) (told self.new)) }
-        ensures stopped { IfErr result (λ e. StopsAt (map stored_file files.now) e.at e.why (told self.old) (told self.new)) }
+        ensures stored { OnOk result (AreAllStored (map stored_file files.now) (modelled self.old) (modelled self.new)) }
+        ensures stopped { IfErr result (λ e. StopsAt (map stored_file files.now) e.at e.why (modelled self.old) (modelled self.new)) }
         ensures left { left self.new ≡ left self.old }
         ensures come { come self.new ≡ come self.old }
         ensures most { most self.new ≡ most self.old };
@@ -130,16 +130,16 @@ pub trait Folder {
     /// open and no bytes are left. In a folder that is not modelled the file is not modelled either, and `TooLong` may come only
     /// from a later piece.
     fn begin(&mut self, name: &str, limit: u64) -> Result<(), LoadErr>
-        ensures told { Begins (told self.old).files name.now limit result (left self.new) }
+        ensures modelled { Begins (modelled self.old).files name.now limit result (left self.new) }
         ensures ended { OnErr result (left self.new ≡ Some []) }
         ensures come { come self.new ≡ 0 }
         ensures most { most self.new ≡ limit }
-        ensures files { (told self.new).files ≡ (told self.old).files }
-        ensures counted { (told self.old).faults ≤ (told self.new).faults }
-        ensures failed { result ≡ Err LoadErr.Failed → HasRisen (told self.old).faults (told self.new).faults }
-        ensures uncounted { result ≢ Err LoadErr.Failed → (told self.new).faults ≡ (told self.old).faults }
-        ensures steady { (told self.new).steady ≡ (told self.old).steady }
-        ensures surely { FindsWhatIsThere (told self.old) name.now result };
+        ensures files { (modelled self.new).files ≡ (modelled self.old).files }
+        ensures counted { (modelled self.old).faults ≤ (modelled self.new).faults }
+        ensures failed { result ≡ Err LoadErr.Failed → HasRisen (modelled self.old).faults (modelled self.new).faults }
+        ensures faults_unchanged { result ≢ Err LoadErr.Failed → (modelled self.new).faults ≡ (modelled self.old).faults }
+        ensures steady { (modelled self.new).steady ≡ (modelled self.old).steady }
+        ensures steady_never_fails { FindsExisting (modelled self.old) name.now result };
 
     /// Replaces the contents of `into` by the next bytes of the open file. No bytes mean the end of the file, or that no file is
     /// open. After an error there are no bytes, and no file is open.
@@ -147,7 +147,7 @@ pub trait Folder {
     /// A file that is not modelled is too long if its bytes would exceed the limit of `begin`. That error comes only when less than
     /// a full piece is left within the limit.
     fn piece(&mut self, into: &mut Vec<u8>) -> Result<(), LoadErr>
-        ensures told { HandsOut (left self.old) (left self.new) result into.new.items }
+        ensures modelled { GivesPiece (left self.old) (left self.new) result into.new.items }
         ensures size { length into.new.items ≤ piece_size }
         ensures empty { OnErr result (into.new.items ≡ []) }
         ensures ended { OnErr result (left self.new ≡ Some []) }
@@ -155,10 +155,10 @@ pub trait Folder {
         ensures most { most self.new ≡ most self.old }
         ensures within { come self.new ≤ most self.new }
         ensures long { result ≡ Err LoadErr.TooLong → most self.old < come self.old + piece_size }
-        ensures files { (told self.new).files ≡ (told self.old).files }
-        ensures counted { (told self.old).faults ≤ (told self.new).faults }
-        ensures failed { result ≡ Err LoadErr.Failed → HasRisen (told self.old).faults (told self.new).faults }
-        ensures uncounted { result ≢ Err LoadErr.Failed → (told self.new).faults ≡ (told self.old).faults }
-        ensures steady { (told self.new).steady ≡ (told self.old).steady }
-        ensures surely { (told self.old).steady ≡ true → result ≢ Err LoadErr.Failed };
+        ensures files { (modelled self.new).files ≡ (modelled self.old).files }
+        ensures counted { (modelled self.old).faults ≤ (modelled self.new).faults }
+        ensures failed { result ≡ Err LoadErr.Failed → HasRisen (modelled self.old).faults (modelled self.new).faults }
+        ensures faults_unchanged { result ≢ Err LoadErr.Failed → (modelled self.new).faults ≡ (modelled self.old).faults }
+        ensures steady { (modelled self.new).steady ≡ (modelled self.old).steady }
+        ensures steady_never_fails { (modelled self.old).steady ≡ true → result ≢ Err LoadErr.Failed };
 }

@@ -21,17 +21,17 @@
 //!
 //! - `folder`, `sink`: the traits.
 //! - `real`: the folder and sink of the operating system.
-//! - `beside`, `writing`: how `real` stores files and writes bytes.
+//! - `atomic_store`, `writing`: how `real` stores files and writes bytes.
 //! - `memory_folder`, `memory_sink`: the folder and sink in memory.
-//! - `begun_file`, `fault_plan`: their parts.
+//! - `piece_file`, `fault_plan`: their parts.
 #![tactic(auto)]
 
-mod begun_file;
-mod beside;
+mod atomic_store;
 mod fault_plan;
 pub mod folder;
 pub mod memory_folder;
 pub mod memory_sink;
+mod piece_file;
 pub mod real;
 pub mod sink;
 mod writing;

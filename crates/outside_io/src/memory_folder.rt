@@ -2,9 +2,9 @@
 ghost use Rattle.std.specs.Prelude.{◌≡◌, ◌<◌, ◌↔◌, [], length, option_map, None, IsTrue, IfOk, OnOk, OnErr, IfSome, IfNone};
 ghost use Rattle.outside_io.specs.Files.{StoredFile, bytes_of, IsPlace, with_file};
 
-use crate::begun_file::BegunFile;
 use crate::fault_plan::FaultPlan;
 use crate::folder::{Folder, LoadErr, NewFile, StoreErr, Unstored};
+use crate::piece_file::PieceFile;
 use std::alloc::{AllocError as NoMemory, Global};
 use std::marker::Model;
 
@@ -46,7 +46,7 @@ impl MemoryFile {
 #[derive(Debug, Drop)]
 pub struct MemoryFolder {
     files: Vec<MemoryFile>,
-    begun: BegunFile,
+    begun: PieceFile,
     plan: FaultPlan,
 }
 
@@ -71,7 +71,7 @@ impl MemoryFolder {
         ensures steady { IsTrue result.steady ↔ (failing.items ≡ []) }
     {
         MemoryFolder {
-            begun: BegunFile::none(*files.allocator()),
+            begun: PieceFile::none(*files.allocator()),
             files,
             plan: FaultPlan::new(failing),
         }
@@ -123,7 +123,7 @@ fn put(files: &mut Vec<MemoryFile>, name: &str, bytes: &[u8]) -> Result<(), NoMe
 impl Folder for MemoryFolder {
     ghost use Rattle.std.specs.Prelude.{Some};
 
-    ghost told = { λ s. record { files = Some s.files; faults = s.faults; steady = s.steady } };
+    ghost modelled = { λ s. record { files = Some s.files; faults = s.faults; steady = s.steady } };
 
     ghost left = { λ s. Some s.begun.left };
 
@@ -186,7 +186,7 @@ impl Folder for MemoryFolder {
             self.begun.end();
             return Err(LoadErr::Failed);
         }
-        self.begun.hand_out(into)?;
+        self.begun.take_piece(into)?;
         Ok(())
     }
 }

@@ -73,7 +73,7 @@ impl MemorySink {
 impl Sink for MemorySink {
     ghost use Rattle.std.specs.Prelude.{Some, if◌then◌else◌};
 
-    ghost told = { λ s. record { held = Some s.held; faults = s.faults; sure = if s.steady then s.room else 0 } };
+    ghost modelled = { λ s. record { held = Some s.held; faults = s.faults; sure = if s.steady then s.room else 0 } };
 
     fn write(&mut self, bytes: &[u8]) -> Result<(), Failed> {
         if bytes.is_empty() {

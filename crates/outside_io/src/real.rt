@@ -3,7 +3,7 @@ ghost use Rattle.std.specs.Prelude.{◌≡◌, ◌<◌, ◌≤◌, [], length, f
 ghost use Rattle.std.specs.Io.KnownBytes.{Consumes};
 ghost use Rattle.outside_io.specs.Pieces.{piece_size};
 
-use crate::beside::store_together;
+use crate::atomic_store::store_together;
 use crate::folder::{Folder, LoadErr, NewFile, PIECE_SIZE, StoreErr, Unstored};
 use crate::sink::{Failed, Sink};
 use crate::writing::write_all;
@@ -136,7 +136,7 @@ fn is_longer<F: OpenFile>(file: &F, limit: u64) -> bool {
 impl<'r, R: Files> Folder for RealFolder<'r, R> {
     ghost use Rattle.std.specs.Prelude.{None, Some, false, if◌then◌else◌};
 
-    ghost told = { λ s. record { files = None; faults = s.faults; steady = false } };
+    ghost modelled = { λ s. record { files = None; faults = s.faults; steady = false } };
 
     ghost left = { λ s. if s.begun then None else Some [] };
 
@@ -211,7 +211,7 @@ impl<'r, R: Files> Folder for RealFolder<'r, R> {
 impl<'r, R: Print> Sink for RealSink<'r, R> {
     ghost use Rattle.std.specs.Prelude.{None};
 
-    ghost told = { λ faults. record { held = None; faults = faults; sure = 0 } };
+    ghost modelled = { λ faults. record { held = None; faults = faults; sure = 0 } };
 
     fn write(&mut self, bytes: &[u8]) -> Result<(), Failed> {
         let written = write_all(&mut io::writer(self.out), bytes);

@@ -1,4 +1,4 @@
-//! Writes all bytes to a file or to the standard output of the system. `real` and `beside` call `write_all`.
+//! Writes all bytes to a file or to the standard output of the system. `real` and `atomic_store` call `write_all`.
 ghost use Rattle.std.specs.Prelude.{◌≡◌, length, IsOk, OnOk};
 ghost use Rattle.std.specs.Io.KnownBytes.{Appends};
 

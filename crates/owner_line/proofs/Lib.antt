@@ -1,3 +1,3 @@
-pub mod SaidLemmas
+pub mod OwnerLineLemmas
 pub mod OwnerLemmas
 pub mod OwnLineLemmas

@@ -1,4 +1,4 @@
 pub mod OwnersOf
-pub mod Reads
+pub mod Read
 pub mod OwnLines
-pub mod ExitLaws
+pub mod Laws

@@ -8,7 +8,7 @@ use Rattle.pack_defs.specs.declared.owners.OwnerLine.{OwnerLine}
 use Rattle.pack_defs.specs.declared.scenario.Scenario.{Scenario}
 use Rattle.pack_defs.specs.Prices.{stays, last_round}
 use Rattle.pack_defs.specs.Scenario.{with_owners}
-use Rattle.pack_defs.specs.Told.{Told}
+use Rattle.pack_defs.specs.TestAnswer.{TestAnswer}
 
 -- The clock rule of the live auction with these lines: a station declines an offer unless one of the lines has it stay in that round. The
 -- values don't matter (live auctions are this project's profile).
@@ -23,5 +23,5 @@ pub record LeavesIn (sc : Scenario) (lines : List OwnerLine) (s r : ℕ) : Type 
   pub stayed : (q : ℕ) → 1 ≤ q → q < r → IsTrue (stays lines q s)
 
 -- Each round from 1 to this one has a test of the station that was answered "fits".
-abbrev pub FitsUpTo : List Told → ℕ → Type 0
-FitsUpTo xs r = (q : ℕ) → 1 ≤ q → q ≤ r → (x : Told) × Contains xs x × (x.round ≡ q) × IsTrue x.room
+abbrev pub FitsUpTo : List TestAnswer → ℕ → Type 0
+FitsUpTo xs r = (q : ℕ) → 1 ≤ q → q ≤ r → (x : TestAnswer) × Contains xs x × (x.round ≡ q) × IsTrue x.room

@@ -4,9 +4,9 @@ use Rattle.std.specs.Prelude.{ℕ, Bool, true, false, nat_lt, ◌+◌, if◌then
 use Rattle.std.specs.Option.{ok_or, option_map}
 use Rattle.std.specs.Str.{bytes_eq}
 use Rattle.pack_defs.specs.Lists.{is_in}
-use Rattle.pack_defs.specs.Prices.{is_said}
+use Rattle.pack_defs.specs.Prices.{has_line_for}
 use Rattle.pack_defs.specs.declared.owners.OwnerLine.{OwnerLine}
-use Rattle.constraint_files.specs.Numbers.{number}
+use Rattle.constraint_files.specs.Field.{number}
 use Rattle.constraint_files.specs.Records.{line_records, lines_of}
 use Rattle.pack_defs.specs.Steps.{◌>>=◌}
 use Rattle.owner_line.specs.declared.error.OwnerErr.{OwnerErr}
@@ -15,8 +15,8 @@ use Rattle.owner_line.specs.declared.error.OwnerWhy.{OwnerWhy}
 use Rattle.owner_line.specs.declared.error.OwnerWhy.TheVariants.{Fields, BadNumber, RoundRange, UnknownStation, BadWord, Repeated}
 
 -- Whether the word says that the station stays; none for an unknown word.
-abbrev pub word_of : List ℕ → Option Bool
-word_of word =
+abbrev pub stay_of_word : List ℕ → Option Bool
+stay_of_word word =
     if bytes_eq word (codes "stay") then Some true
     else if bytes_eq word (codes "leave") then Some false
     else None
@@ -25,7 +25,7 @@ word_of word =
 abbrev pub line_on : ℕ → List ℕ → ℕ → ℕ → List ℕ → Result OwnerLine OwnerWhy
 line_on R ids round station word =
     if nat_lt R round then Err RoundRange
-    else if is_in ids station then ok_or (option_map (λ stays. record { round = round; station = station; stays = stays }) (word_of word)) BadWord
+    else if is_in ids station then ok_or (option_map (λ stays. record { round = round; station = station; stays = stays }) (stay_of_word word)) BadWord
     else Err UnknownStation
 
 -- The line of these fields.
@@ -42,7 +42,7 @@ owner_line R ids _ = Err Fields
 
 -- The earlier lines with one more, if none of them has its round and station.
 abbrev pub with_owner_line : List OwnerLine → OwnerLine → Result (List OwnerLine) OwnerWhy
-with_owner_line said line = if is_said said line.round line.station then Err Repeated else Ok (said ++ line ∷ [])
+with_owner_line said line = if has_line_for said line.round line.station then Err Repeated else Ok (said ++ line ∷ [])
 
 -- The earlier lines with the line of a record.
 abbrev pub with_record : ℕ → List ℕ → List OwnerLine → List (List ℕ) → Result (List OwnerLine) OwnerWhy

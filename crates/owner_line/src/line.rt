@@ -2,7 +2,7 @@
 
 ghost use Rattle.std.specs.Prelude.{◌≡◌, map, true};
 ghost use Rattle.pack_defs.specs.Lists.{is_ascending};
-ghost use Rattle.owner_line.specs.OwnersOf.{line_on, owner_line, word_of};
+ghost use Rattle.owner_line.specs.OwnersOf.{line_on, owner_line, stay_of_word};
 
 use crate::error::OwnerWhy;
 use constraint_files::field::number;
@@ -10,8 +10,8 @@ use pack_defs::numbers::is_in;
 use pack_defs::owners::OwnerLine;
 
 /// Returns whether a word says that a station stays; `None` for an unknown word.
-fn word_of(word: &[u8]) -> Option<bool>
-    ensures { result ≡ word_of word.now }
+fn stay_of_word(word: &[u8]) -> Option<bool>
+    ensures { result ≡ stay_of_word word.now }
 {
     match word {
         b"stay" => Some(true),
@@ -40,7 +40,7 @@ fn line_on(
     if !is_in(ids, station) {
         return Err(OwnerWhy::UnknownStation);
     }
-    let Some(stays) = word_of(word) else {
+    let Some(stays) = stay_of_word(word) else {
         return Err(OwnerWhy::BadWord);
     };
     Ok(OwnerLine {

@@ -5,7 +5,7 @@ ghost use Rattle.std.specs.Prelude.{◌≡◌, map, true};
 ghost use Rattle.constraint_files.specs.Records.{line_records};
 ghost use Rattle.pack_defs.specs.Lists.{is_ascending};
 ghost use Rattle.owner_line.specs.OwnersOf.{owners_of, with_record, with_records};
-ghost use Rattle.owner_line.specs.Reads.{OwnerChanges, OwnerReads};
+ghost use Rattle.owner_line.specs.Read.{OwnerChanges, OwnerReads};
 
 use crate::error::{OwnerAddErr, OwnerErr, OwnerWhy};
 use crate::line::owner_line;

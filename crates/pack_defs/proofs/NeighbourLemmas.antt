@@ -15,7 +15,7 @@ use Rattle.pack_defs.specs.declared.pair.Pair.{Pair}
 use Rattle.pack_defs.specs.Book.{BookView, AreInOrder, IsInOrder, channels_in, is_within, stations_of}
 use Rattle.pack_defs.specs.Components.{interferes, neighbours_of}
 use Rattle.pack_defs.specs.Lists.{is_ascending, is_in}
-use Rattle.pack_defs.specs.NeighbourLists.{HasAlso, IsListFor, lists_for}
+use Rattle.pack_defs.specs.Neighbours.{HasInserted, IsListFor, lists_for}
 use Rattle.pack_defs.proofs.BookLemmas.{channels_in-none}
 use Rattle.pack_defs.proofs.Chains.{ascending-filter}
 use Rattle.pack_defs.proofs.EdgeLemmas.{others-interfere}
@@ -41,11 +41,11 @@ or_later : (a b c : Bool) → ((a || b) || (c || false)) ≡ (a || (b || (c || f
 or_later true b c = refl
 or_later false b c = refl
 
-pub also-none : (xs : List ℕ) → is_ascending xs ≡ true → HasAlso xs [] xs
+pub also-none : (xs : List ℕ) → is_ascending xs ≡ true → HasInserted xs [] xs
 also-none xs a = record { ascends = a; same = λ t. sym (or-false (is_in xs t)) }
 
 -- A station that the list already has.
-pub also-there : (xs : List ℕ) (x : ℕ) → is_ascending xs ≡ true → is_in xs x ≡ true → HasAlso xs (x ∷ []) xs
+pub also-there : (xs : List ℕ) (x : ℕ) → is_ascending xs ≡ true → is_in xs x ≡ true → HasInserted xs (x ∷ []) xs
 also-there xs x a h = record {
   ascends = a;
   same = λ t. or_there (is_in xs t) ((x == t) || false) (λ e. elim (or_cases (x == t) false e) [
@@ -84,11 +84,11 @@ insert-in x (y ∷ ys) zero t = or_moved (x == t) (y == t) (is_in ys t)
 insert-in x (y ∷ ys) (suc n) t = ap (λ b. (y == t) || b) (insert-in x ys n t) ∙ sym (or_later (y == t) (is_in ys t) (x == t))
 
 -- A new station.
-pub also-new : (xs : List ℕ) (x n : ℕ) → n ≤ length xs → IsPartitionPoint (λ y. nat_cmp y x ≡ Less) (λ y. nat_cmp y x ≡ Greater) xs n → is_ascending xs ≡ true → HasAlso xs (x ∷ []) (insert xs n x)
+pub also-new : (xs : List ℕ) (x n : ℕ) → n ≤ length xs → IsPartitionPoint (λ y. nat_cmp y x ≡ Less) (λ y. nat_cmp y x ≡ Greater) xs n → is_ascending xs ≡ true → HasInserted xs (x ∷ []) (insert xs n x)
 also-new xs x n l h a = record { ascends = insert-ascends x xs n l h a; same = λ t. insert-in x xs n t }
 
 -- The pair of the loop's current step.
-pub also-next : (key : Pair → ℕ) (pairs : List Pair) (i : ℕ) (d : Pair) (old mid new : List ℕ) → i < length pairs → HasAlso old (map key (take i pairs)) mid → HasAlso mid (key (get_or pairs i d) ∷ []) new → HasAlso old (map key (take (i + 1) pairs)) new
+pub also-next : (key : Pair → ℕ) (pairs : List Pair) (i : ℕ) (d : Pair) (old mid new : List ℕ) → i < length pairs → HasInserted old (map key (take i pairs)) mid → HasInserted mid (key (get_or pairs i d) ∷ []) new → HasInserted old (map key (take (i + 1) pairs)) new
 also-next key pairs i d old mid new l before one =
     let more : List ℕ = map key (take i pairs) in
     let x : ℕ = key (get_or pairs i d) in
@@ -101,7 +101,7 @@ also-next key pairs i d old mid new l before one =
     }
 
 -- The first and second stations of a station's pairs.
-pub list-for : (pairs : List Pair) (s : ℕ) (firsts near : List ℕ) → HasAlso [] (map (λ p. p.f) (filter (λ p. p.g == s) pairs)) firsts → HasAlso firsts (map (λ p. p.g) (filter (λ p. p.f == s) pairs)) near → IsListFor pairs s near
+pub list-for : (pairs : List Pair) (s : ℕ) (firsts near : List ℕ) → HasInserted [] (map (λ p. p.f) (filter (λ p. p.g == s) pairs)) firsts → HasInserted firsts (map (λ p. p.g) (filter (λ p. p.f == s) pairs)) near → IsListFor pairs s near
 list-for pairs s firsts near one two =
     let to : List ℕ = map (λ p. p.f) (filter (λ p. p.g == s) pairs) in
     let from : List ℕ = map (λ p. p.g) (filter (λ p. p.f == s) pairs) in

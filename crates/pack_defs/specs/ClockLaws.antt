@@ -10,18 +10,18 @@ use Rattle.pack_defs.specs.declared.order.Order.TheVariants.{ByVolume}
 use Rattle.pack_defs.specs.declared.scenario.Scenario.{Scenario}
 use Rattle.pack_defs.specs.Scenario.{StationsAscend, facilities, volume_of, value_of, with_owners}
 use Rattle.pack_defs.specs.Prices.{offer, declines, stays, start_set, last_round}
-use Rattle.pack_defs.specs.ClockRule.{ClockTest, ClockState, OnAirSince, FrozenAt, turns, opening_state, is_active, is_listed, freezes, after_answer, on_air_set, asked_set, asked_from, asked_tests, after_tests, clock_rule}
-use Rattle.pack_defs.specs.Standing.{entries_of}
-use Rattle.pack_defs.specs.Told.{told, row_told}
+use Rattle.pack_defs.specs.ClockRule.{ClockTest, ClockState, OnAirSince, FrozenAt, round_order, opening_state, is_active, is_listed, freezes, after_answer, on_air_set, asked_set, asked_from, asked_tests, after_tests, clock_rule}
+use Rattle.pack_defs.specs.StationEntries.{station_entry_count}
+use Rattle.pack_defs.specs.TestAnswer.{test_answers, row_from_answers}
 use Rattle.pack_defs.specs.Threshold.{IsThresholdPrice}
 use Rattle.pack_defs.specs.ResultRows.{ResultRow, Undecided, frozen_row, on_air_row, result_rows, row_of}
 
 -- After any tests each station of the scenario has exactly one entry: on air, frozen or active.
-abbrev pub EachStandsOnce : Type 0
-EachStandsOnce =
+abbrev pub EachStationOnce : Type 0
+EachStationOnce =
     (sc : Scenario) (book : BookView) (undecided tests : List ClockTest) (s : ℕ) →
     StationsAscend sc → Contains (facilities sc) s →
-    entries_of (after_tests sc book undecided tests (opening_state sc)) s ≡ 1
+    station_entry_count (after_tests sc book undecided tests (opening_state sc)) s ≡ 1
 
 -- If the start set fits, the stations on air fit after any tests.
 abbrev pub OnAirFits : Type 0
@@ -31,8 +31,8 @@ OnAirFits =
     IsTrue (fits book (on_air_set sc (after_tests sc book undecided tests (opening_state sc))))
 
 -- A test asks no more than whether the component of its station, among the stations on air, fits.
-abbrev pub TestAsksOfTheComponent : Type 0
-TestAsksOfTheComponent =
+abbrev pub ComponentDecidesTest : Type 0
+ComponentDecidesTest =
     (sc : Scenario) (book : BookView) (state : ClockState) (s : ℕ) →
     Contains (facilities sc) s → IsTrue (fits book (on_air_set sc state)) →
     fits book (asked_set sc state s) ≡ fits book (component book (asked_set sc state s) s)
@@ -74,8 +74,8 @@ ShownUndecidedAreListed =
     IsTrue (is_listed undecided (record { round = row.round; station = row.facility }))
 
 -- The next tests begin in the state that the first tests leave.
-abbrev pub TestsGoInTurn : Type 0
-TestsGoInTurn =
+abbrev pub TestsCompose : Type 0
+TestsCompose =
     (sc : Scenario) (book : BookView) (undecided first then : List ClockTest) (state : ClockState) →
     after_tests sc book undecided (first ++ then) state ≡
     after_tests sc book undecided then (after_tests sc book undecided first state)
@@ -105,8 +105,8 @@ UndecidedTestFreezes =
     after_tests sc book (undecided ++ t ∷ []) (done ++ t ∷ []) opening ≡ freezes sc state t
 
 -- The asked tests of two sequences are those of the first, and then those of the second from the state in which the second begins.
-abbrev pub AskedTestsGoInTurn : Type 0
-AskedTestsGoInTurn =
+abbrev pub AskedTestsCompose : Type 0
+AskedTestsCompose =
     (sc : Scenario) (book : BookView) (undecided first then : List ClockTest) (state : ClockState) →
     asked_from sc book undecided (first ++ then) state ≡
     asked_from sc book undecided first state ++
@@ -123,7 +123,7 @@ SameUndecidedAskTheSame =
 abbrev pub GreaterVolumeComesFirst : Type 0
 GreaterVolumeComesFirst =
     (sc : Scenario) (first then : List ℕ) (s t : ℕ) →
-    StationsAscend sc → turns sc ByVolume ≡ first ++ s ∷ then → Contains then t →
+    StationsAscend sc → round_order sc ByVolume ≡ first ++ s ∷ then → Contains then t →
     (volume_of sc t < volume_of sc s) ⊎ ((volume_of sc t ≡ volume_of sc s) × (s < t))
 
 -- No station is paid less than its value in an auction by values, whichever tests were left undecided.
@@ -142,11 +142,11 @@ LinesFollowingValuesActAsValues =
     clock_rule (with_owners sc (Some lines)) book order undecided ≡ clock_rule (with_owners sc None) book order undecided
 
 -- The row of a station outside the start set is the row that the answers to its tests determine.
-abbrev pub RowIsWhatAnswersMake : Type 0
-RowIsWhatAnswersMake =
+abbrev pub RowFollowsFromAnswers : Type 0
+RowFollowsFromAnswers =
     (sc : Scenario) (book : BookView) (order : Order) (undecided : List ClockTest) (s : ℕ) →
     Contains (facilities sc) s → IsFalse (declines sc s 0) →
-    row_of undecided (clock_rule sc book order undecided) s ≡ row_told sc s (told sc book order undecided s)
+    row_of undecided (clock_rule sc book order undecided) s ≡ row_from_answers sc s (test_answers sc book order undecided s)
 
 -- The row of a station of the start set says that the station is on air since round 0.
 abbrev pub StartSetKeepsRoundZero : Type 0
@@ -156,11 +156,11 @@ StartSetKeepsRoundZero =
     row_of undecided (clock_rule sc book order undecided) s ≡ Some (on_air_row (record { station = s; round = 0 }))
 
 -- Two live auctions in which the owner's lines of a station agree, and the answers to its tests agree, have the same row for the station.
-abbrev pub RowHangsOnItsOwn : Type 0
-RowHangsOnItsOwn =
+abbrev pub RowDependsOnOwnTests : Type 0
+RowDependsOnOwnTests =
     (sc : Scenario) (book : BookView) (order : Order) (u v : List ClockTest) (a b : List OwnerLine) (s : ℕ) →
     Contains (facilities sc) s → ((r : ℕ) → stays a r s ≡ stays b r s) →
-    told (with_owners sc (Some a)) book order u s ≡ told (with_owners sc (Some b)) book order v s →
+    test_answers (with_owners sc (Some a)) book order u s ≡ test_answers (with_owners sc (Some b)) book order v s →
     row_of u (clock_rule (with_owners sc (Some a)) book order u) s ≡ row_of v (clock_rule (with_owners sc (Some b)) book order v) s
 
 -- In an auction by values with every test decided, each frozen station is paid its threshold price.

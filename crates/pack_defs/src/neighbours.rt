@@ -9,13 +9,13 @@ ghost use Rattle.std.specs.List.{list_all};
 ghost use Rattle.std.specs.List.Sorted.{IsNonDecreasingBy};
 ghost use Rattle.pack_defs.specs.Book.{AreInOrder, is_within};
 ghost use Rattle.pack_defs.specs.Lists.{is_ascending};
-ghost use Rattle.pack_defs.specs.NeighbourLists.{HasAlso, IsListFor, lists_for};
+ghost use Rattle.pack_defs.specs.Neighbours.{HasInserted, IsListFor, lists_for};
 ghost use Rattle.pack_defs.specs.PairOrders.{IsBySecond};
 
-use crate::by_station::{first_is, second_is};
 use crate::domain::Domain;
 use crate::items::Items;
 use crate::pair::Pair;
+use crate::station_pairs::{pairs_with_first, pairs_with_second};
 use std::alloc::{AllocError as NoMemory, Global};
 
 /// Returns the neighbours of each station of these domains, from the pairs in two orders. Each pair costs two binary searches among the
@@ -23,7 +23,7 @@ use std::alloc::{AllocError as NoMemory, Global};
 ///
 /// # Errors
 /// Fails only if memory runs out.
-pub fn lists_of(
+pub fn neighbour_lists(
     alloc: Global,
     domains: &[Domain],
     pairs: &[Pair],
@@ -37,7 +37,7 @@ pub fn lists_of(
 {
     let mut lists = Vec::with_capacity(alloc, domains.len())?;
     for domain in domains {
-        lists.push(list_of(alloc, domain.station, pairs, by_second)?)?;
+        lists.push(neighbour_list(alloc, domain.station, pairs, by_second)?)?;
     }
     Ok(lists)
 }
@@ -46,7 +46,7 @@ pub fn lists_of(
 ///
 /// # Errors
 /// Fails only if memory runs out.
-pub fn copied_lists(alloc: Global, lists: &[Items<u32>]) -> Result<Vec<Items<u32>>, NoMemory>
+pub fn copy_lists(alloc: Global, lists: &[Items<u32>]) -> Result<Vec<Items<u32>>, NoMemory>
     ensures { IfOk result (λ copy. copy.items ≡ lists.now) }
 {
     let mut copy = Vec::with_capacity(alloc, lists.len())?;
@@ -57,7 +57,7 @@ pub fn copied_lists(alloc: Global, lists: &[Items<u32>]) -> Result<Vec<Items<u32
 }
 
 // Returns the neighbours of one station: the first stations of the pairs to it, and the second stations of the pairs from it.
-fn list_of(
+fn neighbour_list(
     alloc: Global,
     station: u32,
     pairs: &[Pair],
@@ -68,15 +68,15 @@ fn list_of(
     ensures { IfOk result (IsListFor pairs.now station) }
 {
     let mut near = Vec::new(alloc);
-    put_firsts(&mut near, second_is(by_second, station))?;
-    put_seconds(&mut near, first_is(pairs, station))?;
+    add_firsts(&mut near, pairs_with_second(by_second, station))?;
+    add_seconds(&mut near, pairs_with_first(pairs, station))?;
     Ok(Items::from_vec(near))
 }
 
 // Inserts the first station of each of these pairs into an ascending list.
-fn put_firsts(near: &mut Vec<u32>, pairs: &[Pair]) -> Result<(), NoMemory>
+fn add_firsts(near: &mut Vec<u32>, pairs: &[Pair]) -> Result<(), NoMemory>
     requires { IsTrue (is_ascending near.old.items) }
-    ensures { OnOk result (HasAlso near.old.items (map (λ p. p.f) pairs.now) near.new.items) }
+    ensures { OnOk result (HasInserted near.old.items (map (λ p. p.f) pairs.now) near.new.items) }
 {
     for p in pairs {
         put(near, p.f)?;
@@ -85,9 +85,9 @@ fn put_firsts(near: &mut Vec<u32>, pairs: &[Pair]) -> Result<(), NoMemory>
 }
 
 // Inserts the second station of each of these pairs into an ascending list.
-fn put_seconds(near: &mut Vec<u32>, pairs: &[Pair]) -> Result<(), NoMemory>
+fn add_seconds(near: &mut Vec<u32>, pairs: &[Pair]) -> Result<(), NoMemory>
     requires { IsTrue (is_ascending near.old.items) }
-    ensures { OnOk result (HasAlso near.old.items (map (λ p. p.g) pairs.now) near.new.items) }
+    ensures { OnOk result (HasInserted near.old.items (map (λ p. p.g) pairs.now) near.new.items) }
 {
     for p in pairs {
         put(near, p.g)?;
@@ -98,7 +98,7 @@ fn put_seconds(near: &mut Vec<u32>, pairs: &[Pair]) -> Result<(), NoMemory>
 // Inserts a station into an ascending list, unless the list has it.
 fn put(near: &mut Vec<u32>, station: u32) -> Result<(), NoMemory>
     requires { IsTrue (is_ascending near.old.items) }
-    ensures { OnOk result (HasAlso near.old.items (station ∷ []) near.new.items) }
+    ensures { OnOk result (HasInserted near.old.items (station ∷ []) near.new.items) }
 {
     match near.binary_search(&station) {
         Ok(_) => Ok(()),

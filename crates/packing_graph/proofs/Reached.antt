@@ -8,7 +8,7 @@ use Rattle.pack_defs.specs.Lists.{is_ascending, is_in}
 use Rattle.pack_defs.proofs.ComponentLaws.{component-from, component-gives, within-ascends}
 use Rattle.pack_defs.proofs.Members.{is_in-from, is_in-gives}
 use Rattle.packing_graph.specs.Sets.{with_station}
-use Rattle.packing_graph.specs.Walks.{IsVisited}
+use Rattle.packing_graph.specs.Reach.{IsVisited}
 use Rattle.packing_graph.proofs.SetLemmas.{with_station-has, with_station-gives, with_station-ascending, with_station-keeps}
 use Rattle.packing_graph.proofs.WalkLemmas.{HasMore, in-gives, last-in, still-in}
 

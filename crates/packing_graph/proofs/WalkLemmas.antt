@@ -12,7 +12,7 @@ use Rattle.pack_defs.specs.Lists.{is_in}
 use Rattle.pack_defs.proofs.BookLemmas.{list_any-same}
 use Rattle.pack_defs.proofs.ComponentLaws.{filter_grows, filter_grows_by_one}
 use Rattle.pack_defs.proofs.Members.{is_in-gives}
-use Rattle.packing_graph.specs.Walks.{IsVisited, count_unseen}
+use Rattle.packing_graph.specs.Reach.{IsVisited, count_unseen}
 
 -- One more station is reached, or none.
 pub record HasMore (x : ℕ) (seen more : ℕ → Bool) : Type 0 where

@@ -1,3 +1,3 @@
 pub mod Sets
-pub mod Walks
-pub mod ComponentLaws
+pub mod Reach
+pub mod Laws

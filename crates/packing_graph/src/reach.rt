@@ -6,7 +6,7 @@ ghost use Rattle.std.specs.Ordering.{nat_cmp};
 ghost use Rattle.pack_defs.specs.Components.{component};
 ghost use Rattle.pack_defs.specs.Lists.{is_in};
 ghost use Rattle.packing_graph.specs.Sets.{with_station};
-ghost use Rattle.packing_graph.specs.Walks.{IsVisited};
+ghost use Rattle.packing_graph.specs.Reach.{IsVisited};
 
 use crate::station_set::StationSet;
 use pack_defs::book::Book;

@@ -11,7 +11,7 @@ use Rattle.pack_defs.specs.Packing.{IsPacking, assignments, fits, is_apart}
 use Rattle.pack_defs.proofs.FitsLaws.{assignments-gives, is_apart-gives, is_apart-from}
 use Rattle.pack_defs.proofs.Members.{Contains-here, Contains-cons_cases, Contains-nil, Contains-map, Contains-from_map, Contains-flat_map, Contains-from_flat_map, list_any-from, list_all-from, list_all-gives}
 use Rattle.pack_defs.proofs.Words.{list_any-from_each}
-use Rattle.plain_pack.specs.Search.{Extends, NoneExtends, NoneExtendsBy, stands_with}
+use Rattle.plain_pack.specs.Search.{Extends, NoneExtends, NoneExtendsBy, is_compatible_with}
 
 -- A pair forbids its entries in either order.
 forbids-sym : (pairs : List Pair) (x y : ℕ × ℕ) → list_any (λ p. joins p x y) pairs ≡ list_any (λ p. joins p y x) pairs
@@ -31,7 +31,7 @@ none-of p xs x h l =
     ]
 
 -- An entry that is forbidden beside the chosen ones is in no clean map that has them.
-pub not-beside : (book : BookView) (chosen : List (ℕ × ℕ)) (x : ℕ × ℕ) (more : List (ℕ × ℕ)) → stands_with book chosen x ≡ false → is_apart book (chosen ++ x ∷ more) ≡ false
+pub not-beside : (book : BookView) (chosen : List (ℕ × ℕ)) (x : ℕ × ℕ) (more : List (ℕ × ℕ)) → is_compatible_with book chosen x ≡ false → is_apart book (chosen ++ x ∷ more) ≡ false
 not-beside book chosen x more h =
     elim (cases_Bool (is_apart book (chosen ++ x ∷ more))) [
       | inl passes ↦
@@ -39,12 +39,12 @@ not-beside book chosen x more h =
           let at_x = Contains-append_right chosen (x ∷ more) x (Contains-here x more) in
           let each : list_all (λ y. not (is_forbidden book x y)) chosen ≡ true =
           list_all-from (λ y. not (is_forbidden book x y)) chosen (λ y l. ap not (apart x y at_x (Contains-append_left chosen (x ∷ more) y l))) in
-          absurd (both_ways (stands_with book chosen x) h (and_from (list_all (λ y. not (is_forbidden book x y)) chosen) (not (is_forbidden book x x)) each (ap not (apart x x at_x at_x))))
+          absurd (both_ways (is_compatible_with book chosen x) h (and_from (list_all (λ y. not (is_forbidden book x y)) chosen) (not (is_forbidden book x x)) each (ap not (apart x x at_x at_x))))
       | inr none ↦ none
     ]
 
 -- An entry that is allowed beside the chosen ones is apart from them.
-pub beside : (book : BookView) (chosen : List (ℕ × ℕ)) (x : ℕ × ℕ) → is_apart book chosen ≡ true → stands_with book chosen x ≡ true → is_apart book (chosen ++ x ∷ []) ≡ true
+pub beside : (book : BookView) (chosen : List (ℕ × ℕ)) (x : ℕ × ℕ) → is_apart book chosen ≡ true → is_compatible_with book chosen x ≡ true → is_apart book (chosen ++ x ∷ []) ≡ true
 beside book chosen x a h =
     let parts = and_parts (list_all (λ y. not (is_forbidden book x y)) chosen) (not (is_forbidden book x x)) h in
     let from_x : (y : ℕ × ℕ) → Contains (chosen ++ x ∷ []) y → is_forbidden book x y ≡ false = λ y l.

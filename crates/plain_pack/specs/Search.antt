@@ -5,8 +5,8 @@ use Rattle.pack_defs.specs.Book.{BookView, is_forbidden}
 use Rattle.pack_defs.specs.Packing.{assignments, is_apart}
 
 -- Whether the entry is allowed together with each of these and by itself.
-abbrev pub stands_with : BookView → List (ℕ × ℕ) → ℕ × ℕ → Bool
-stands_with book chosen x = list_all (λ y. not (is_forbidden book x y)) chosen && not (is_forbidden book x x)
+abbrev pub is_compatible_with : BookView → List (ℕ × ℕ) → ℕ × ℕ → Bool
+is_compatible_with book chosen x = list_all (λ y. not (is_forbidden book x y)) chosen && not (is_forbidden book x x)
 
 -- `all` is the chosen entries and an assignment of the stations left, no two entries of which are forbidden together.
 pub record Extends (book : BookView) (chosen : List (ℕ × ℕ)) (left : List ℕ) (all : List (ℕ × ℕ)) : Type 0 where

@@ -3,7 +3,7 @@
 ghost use Rattle.std.specs.Prelude.{◌≡◌, true, IfOk, IsTrue, IsFalse, MatchOption};
 ghost use Rattle.pack_defs.specs.Lists.{is_ascending};
 ghost use Rattle.pack_defs.specs.Packing.{IsPacking, fits, is_apart};
-ghost use Rattle.plain_pack.specs.Search.{IsExtended, stands_with};
+ghost use Rattle.plain_pack.specs.Search.{IsExtended, is_compatible_with};
 
 use pack_defs::book::Book;
 use pack_defs::channel_map::ChannelMap;
@@ -34,7 +34,7 @@ fn extend(book: &Book, left: &[u32], chosen: &mut Vec<(u32, u8)>) -> Result<bool
         return Ok(true);
     };
     for channel in book.domain(*station) {
-        if !stands(book, chosen, *station, *channel) {
+        if !is_compatible(book, chosen, *station, *channel) {
             continue;
         }
         chosen.push((*station, *channel))?;
@@ -47,8 +47,8 @@ fn extend(book: &Book, left: &[u32], chosen: &mut Vec<(u32, u8)>) -> Result<bool
 }
 
 // Checks whether the station may be on this channel together with the chosen entries.
-fn stands(book: &Book, chosen: &[(u32, u8)], station: u32, channel: u8) -> bool
-    ensures { result ≡ stands_with book.now chosen.now (station, channel) }
+fn is_compatible(book: &Book, chosen: &[(u32, u8)], station: u32, channel: u8) -> bool
+    ensures { result ≡ is_compatible_with book.now chosen.now (station, channel) }
 {
     for x in chosen {
         if book.forbids(station, channel, x.0, x.1) {

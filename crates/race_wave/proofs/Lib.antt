@@ -1,5 +1,5 @@
 pub mod Crosses
 pub mod MeasureLemmas
 pub mod RunLemmas
-pub mod TurnLemmas
+pub mod SerialLemmas
 pub mod WaveLemmas

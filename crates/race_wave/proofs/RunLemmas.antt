@@ -6,10 +6,10 @@ use Rattle.std.proofs.lemmas.Option.{slice_get-get_or}
 use mathlib.Core.Logic.{dite}
 use native.Mathlib.Decide.{ℕ_discrete}
 use Rattle.pack_defs.specs.declared.worker.Worker.{Worker}
-use Rattle.auction_core.specs.Clockwork.{ClockworkView}
+use Rattle.auction_core.specs.QuerySession.{QuerySessionView}
 use Rattle.auction_core.specs.Replay.{EntryView}
 use Rattle.turn_lock.specs.declared.chronicle.PassKnowledge.{PassKnowledge}
-use Rattle.turn_lock.specs.Passes.{IsPassIdle, PassStandsAt, known_of, pass_number, standing}
+use Rattle.turn_lock.specs.Passes.{IsPassIdle, PassStandsAt, known_of, pass_number, pass_identity}
 use Rattle.turn_lock.specs.Turns.{AllOf, each_new, known}
 use Rattle.answer_board.specs.contracts.kept.KeptChronicle.TheImpl.{ghosts}
 use Rattle.answer_board.specs.declared.board.Board.{Board}
@@ -22,7 +22,7 @@ use Rattle.turn_lock.proofs.Lists.{length_map}
 use Rattle.turn_lock.proofs.Makes.{map_again}
 use Rattle.turn_lock.proofs.PassLists.{all_at}
 use Rattle.race_wave.specs.declared.runner.Runner.{Runner}
-use Rattle.race_wave.specs.Waves.{HasRaced, IsRunner}
+use Rattle.race_wave.specs.Wave.{HasRaced, IsRunner}
 
 -- ---- lists
 
@@ -85,7 +85,7 @@ turned-list f n xs ys e h = spliced n xs ys (drop (length ys) xs) e (sym (length
 module _ {R : Type 0} (w : R → Worker) (board : Board) where
   -- The passes of a new board, each with the racer of its worker.
   pub runners-of : (start : List (ℕ × EntryView)) (n : ℕ) (workers : List Worker) (xs : List (Runner R))
-      → AreAllOn board (map standing (map (λ r. r.pass) xs)) → AllOf IsPassIdle (map (λ r. r.pass) xs) → map known_of (map (λ r. r.pass) xs) ≡ each_new start n → map w (map (λ r. r.racer) xs) ≡ workers → (raised board).scenario.workers ≡ workers
+      → AreAllOn board (map pass_identity (map (λ r. r.pass) xs)) → AllOf IsPassIdle (map (λ r. r.pass) xs) → map known_of (map (λ r. r.pass) xs) ≡ each_new start n → map w (map (λ r. r.racer) xs) ≡ workers → (raised board).scenario.workers ≡ workers
       → All (λ r. IsRunner board r.pass (w r.racer)) xs
   runners-of start n workers xs all idle new racers of k d lt =
       let r : Runner R = get_or xs k d in
@@ -102,7 +102,7 @@ module _ {R : Type 0} (w : R → Worker) (board : Board) where
         of = ap (slice_get (raised board).scenario.workers) number ∙ (ap (λ l. slice_get l k) (sym mine) ∙ at);
       }
     where
-      all-from : (ys : List (Runner R)) → AllOf (PassStandsAt kept_base kept_entries board.lock) (map standing (map (λ r. r.pass) ys)) → AllOf (λ (x : Runner R). IsPassOn board x.pass) ys
+      all-from : (ys : List (Runner R)) → AllOf (PassStandsAt kept_base kept_entries board.lock) (map pass_identity (map (λ r. r.pass) ys)) → AllOf (λ (x : Runner R). IsPassOn board x.pass) ys
       all-from [] h = tt
       all-from (y ∷ ys) h = (h.0, all-from ys h.1)
 
@@ -111,7 +111,7 @@ module _ {R : Type 0} (w : R → Worker) (board : Board) where
       idle-from (y ∷ ys) h = (h.0, idle-from ys h.1)
 
   -- What a wave does not change.
-  pub raced-standing : (xs ys : List (Runner R)) → AllZip (HasRaced w board) xs ys → map standing (map (λ r. r.pass) ys) ≡ map standing (map (λ r. r.pass) xs)
+  pub raced-standing : (xs ys : List (Runner R)) → AllZip (HasRaced w board) xs ys → map pass_identity (map (λ r. r.pass) ys) ≡ map pass_identity (map (λ r. r.pass) xs)
   raced-standing [] [] h = refl
   raced-standing [] (y ∷ ys) h = absurd h
   raced-standing (x ∷ xs) [] h = absurd h
@@ -159,17 +159,17 @@ room-none done rest all n e g h =
 -- ---- over the passes of a board
 
 abbrev BoardPass : Type 0
-BoardPass = Pass Kept ClockworkView EntryView ghosts
+BoardPass = Pass Kept QuerySessionView EntryView ghosts
 
 module _ {R : Type 0} (w : R → Worker) (board : Board) where
   -- The workers of a new board before the wave.
   pub before : (n : ℕ) (ps : List BoardPass) (rs : List R) (xs : List (Runner R))
-      → AreAllOn board (map standing ps) → AllOf IsPassIdle ps → map known_of ps ≡ each_new (numbered (raised board).history) n → map w rs ≡ (raised board).scenario.workers
+      → AreAllOn board (map pass_identity ps) → AllOf IsPassIdle ps → map known_of ps ≡ each_new (numbered (raised board).history) n → map w rs ≡ (raised board).scenario.workers
       → map (λ (r : Runner R). r.pass) xs ≡ ps → map (λ (r : Runner R). r.racer) xs ≡ rs
       → All (λ r. IsRunner board r.pass (w r.racer)) xs
   before n ps rs xs all idle new racers passes solvers =
       runners-of w board (numbered (raised board).history) n (raised board).scenario.workers xs
-      (subst (λ (l : List BoardPass). AreAllOn board (map standing l)) (sym passes) all)
+      (subst (λ (l : List BoardPass). AreAllOn board (map pass_identity l)) (sym passes) all)
       (subst (λ (l : List BoardPass). AllOf IsPassIdle l) (sym passes) idle)
       (subst (λ (l : List BoardPass). map known_of l ≡ each_new (numbered (raised board).history) n) (sym passes) new)
       (ap (map w) solvers ∙ racers)
@@ -192,12 +192,12 @@ module _ {R : Type 0} (w : R → Worker) (board : Board) where
       raced-long w board xs ys raced ∙ (sym (length_map (λ (r : Runner R). r.racer) xs) ∙ ap (λ (l : List R). length l) solvers)
 
   -- The wave keeps all passes.
-  pub after-all : (ps ls : List BoardPass) (xs ys : List (Runner R)) → AreAllOn board (map standing ps)
+  pub after-all : (ps ls : List BoardPass) (xs ys : List (Runner R)) → AreAllOn board (map pass_identity ps)
       → map (λ (r : Runner R). r.pass) xs ≡ ps → AllZip (HasRaced w board) xs ys → ls ≡ map (λ (r : Runner R). r.pass) ys
-      → AreAllOn board (map standing ls)
+      → AreAllOn board (map pass_identity ls)
   after-all ps ls xs ys all passes raced left =
-      let e : map standing ls ≡ map standing ps = ap (λ (l : List BoardPass). map standing l) left ∙ (raced-standing w board xs ys raced
-      ∙ ap (λ (l : List BoardPass). map standing l) passes) in
+      let e : map pass_identity ls ≡ map pass_identity ps = ap (λ (l : List BoardPass). map pass_identity l) left ∙ (raced-standing w board xs ys raced
+      ∙ ap (λ (l : List BoardPass). map pass_identity l) passes) in
       subst (λ ss. AreAllOn board ss) (sym e) all
 
   pub after-idle : (ls : List BoardPass) (xs ys : List (Runner R)) → AllZip (HasRaced w board) xs ys → ls ≡ map (λ (r : Runner R). r.pass) ys → AllOf IsPassIdle ls

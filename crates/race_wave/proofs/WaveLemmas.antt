@@ -20,15 +20,15 @@ use Rattle.auction_core.proofs.TaskLemmas.{task-has}
 use Rattle.answer_board.specs.declared.board.Board.{Board}
 use Rattle.answer_board.specs.declared.look.Look.TheVariants as Look
 use Rattle.answer_board.specs.Boards.{raised}
-use Rattle.answer_board.specs.Posts.{LookIs, Sees, is_faultless}
+use Rattle.answer_board.specs.Posts.{LookIs, SeesState, is_faultless}
 use Rattle.turn_lock.proofs.Lists.{all_more}
 use Rattle.race_wave.specs.Watches.{IsNumberAfter}
-use Rattle.race_wave.specs.Waves.{HasPosted, HasNothingLeft, SaysValid, is_last}
+use Rattle.race_wave.specs.Wave.{HasPosted, HasNothingLeft, SaysValid, is_last_reply}
 
-turned-last : (a b c : Bool) (n : ℕ) (reply : Reply) → (if a then Some Ended else (if not b then Some (WrongQuery n) else (if c then Some Stranger else None))) ≡ Some reply → is_last reply ≡ true → a ≡ true
+turned-last : (a b c : Bool) (n : ℕ) (reply : Reply) → (if a then Some Ended else (if not b then Some (WrongQuery n) else (if c then Some Stranger else None))) ≡ Some reply → is_last_reply reply ≡ true → a ≡ true
 turned-last true b c n reply e l = refl
-turned-last false false c n reply e l = let same : WrongQuery n ≡ reply = cc in absurd (false≢true (ap is_last same ∙ l))
-turned-last false true true n reply e l = let same : Stranger ≡ reply = cc in absurd (false≢true (ap is_last same ∙ l))
+turned-last false false c n reply e l = let same : WrongQuery n ≡ reply = cc in absurd (false≢true (ap is_last_reply same ∙ l))
+turned-last false true true n reply e l = let same : Stranger ≡ reply = cc in absurd (false≢true (ap is_last_reply same ∙ l))
 turned-last false true false n reply e l = cc
 
 pub noted-now : (x : NotedSpent) (ns : List NotedSpent) → is_noted (noted_with x ns) x.worker ≡ true
@@ -39,9 +39,9 @@ noted-now x (n ∷ ns) = elim (cases_Bool (nat_lt x.worker n.worker)) [
 ]
 
 -- A posting with such a reply leaves its worker nothing to do.
-pub rests : (sc : Scenario) (book : BookView) (state : CoreState) (p : PostingView) → is_last (take sc book state p).0 ≡ true → HasNothingLeft p.worker (take sc book state p).1
+pub rests : (sc : Scenario) (book : BookView) (state : CoreState) (p : PostingView) → is_last_reply (take sc book state p).0 ≡ true → HasNothingLeft p.worker (take sc book state p).1
 rests sc book state p =
-    take-cases sc book state p (λ out. take sc book state p ≡ out → is_last out.0 ≡ true → HasNothingLeft p.worker out.1) (record {
+    take-cases sc book state p (λ out. take sc book state p ≡ out → is_last_reply out.0 ≡ true → HasNothingLeft p.worker out.1) (record {
       turned = λ reply t e l. inl (turned-last (has_ended state) (p.number == state.number) (nat_le (length sc.workers) p.worker) state.number reply t l);
       rejected = λ place t f e l. absurd (false≢true l);
       fit = λ delta t f a e l. absurd (false≢true l);
@@ -80,11 +80,11 @@ posted-on a b c h k = record {
 
 -- ---- which query is current
 
-pub number-after : (board : Board) (seen : List (ℕ × EntryView)) (number : ℕ) → Sees (raised board) seen (λ state. number ≡ state.number) → IsNumberAfter board seen number
+pub number-after : (board : Board) (seen : List (ℕ × EntryView)) (number : ℕ) → SeesState (raised board) seen (λ state. number ≡ state.number) → IsNumberAfter board seen number
 number-after board seen number h = ap (λ o. option_map (λ (state : CoreState). state.number) o) h.replays ∙ ap Some (sym h.holds)
 
 -- The current query has its state's number.
-pub number-of-task : (board : Board) (seen : List (ℕ × EntryView)) (task : Task) → Sees (raised board) seen (λ state. LookIs (raised board).scenario (raised board).book state (Look.Task task)) → IsNumberAfter board seen task.number
+pub number-of-task : (board : Board) (seen : List (ℕ × EntryView)) (task : Task) → SeesState (raised board) seen (λ state. LookIs (raised board).scenario (raised board).book state (Look.Task task)) → IsNumberAfter board seen task.number
 number-of-task board seen task h =
     let on = raised board in
     number-after board seen task.number (record { state = h.state; replays = h.replays; holds = task-has on.scenario on.book h.state (λ t. t.number ≡ h.state.number) refl (λ t. refl) task h.holds.0 })

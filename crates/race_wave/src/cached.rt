@@ -7,7 +7,7 @@ ghost use Rattle.std.specs.Prelude.{◌≡◌, IfOk, IfSome, map};
 ghost use Rattle.cert_types.specs.Query.{AttemptIs, IsQuery};
 ghost use Rattle.cert_types.specs.Valid.{IsValid};
 ghost use Rattle.auction_core.specs.Backed.{IsBacked};
-ghost use Rattle.auction_core.specs.Postings.{GoesOnIn};
+ghost use Rattle.auction_core.specs.Postings.{ContinuesIn};
 ghost use Rattle.auction_core.specs.Setup.{IsOfAuction};
 ghost use Rattle.auction_core.specs.State.{opening};
 
@@ -18,11 +18,11 @@ use cert_types::answer::{Answer, CertifyWhy};
 use cert_types::certify::certify_query;
 use cert_types::poll::{Attempt, Poll};
 use cert_types::task::Task;
-use first_looks::looks::FirstLooks;
 use pack_defs::book::Book;
 use pack_defs::order::Order;
 use pack_defs::scenario::Scenario;
 use pack_defs::worker::Worker;
+use quick_fits::quick_fits::QuickFits;
 use solver_gate::gate::Gate;
 use solver_gate::racer::{Racer, RacerKind};
 use std::alloc::{AllocError as NoMemory, Global};
@@ -42,7 +42,7 @@ pub struct Cached<'a, W: Wait, R: Racer> {
     cache: &'a Mutex<Cache>,
     /// The worker whose racer this is.
     pub worker: Worker,
-    looks: FirstLooks,
+    quick_fits: QuickFits,
     racer: R,
     ghost own: { R.worker racer ≡ worker },
 }
@@ -65,13 +65,13 @@ impl<'a, W: Wait, R: Racer> Cached<'a, W, R> {
             top,
             cache,
             worker: *worker,
-            looks: FirstLooks::new(alloc),
+            quick_fits: QuickFits::new(alloc),
             racer,
         }
     }
 
     // Returns the cache's answer, or else what the racer returns, which is put into the cache.
-    fn kept_or_tried<P: Poll>(
+    fn cached_or_attempted<P: Poll>(
         &mut self,
         alloc: Global,
         book: &Book,
@@ -83,17 +83,17 @@ impl<'a, W: Wait, R: Racer> Cached<'a, W, R> {
         ensures worker { self.new.worker ≡ self.old.worker }
         ensures goes { P.goes poll.old poll.new }
     {
-        if let Some(answer) = self.kept_answer(alloc, book, task) {
+        if let Some(answer) = self.checked_suggestion_of(alloc, book, task) {
             return Ok(Attempt::Said(answer));
         }
         let attempt = self.racer.attempt(alloc, book, task, poll)?;
-        self.keep(alloc, task, &attempt);
+        self.put_answer(alloc, task, &attempt);
         Ok(attempt)
     }
 
     // Returns what the cache suggests, if the check accepts it. If memory runs out, returns `None`, and the racer
     // searches.
-    fn kept_answer(&self, alloc: Global, book: &Book, task: &Task) -> Option<Answer>
+    fn checked_suggestion_of(&self, alloc: Global, book: &Book, task: &Task) -> Option<Answer>
         requires { IsQuery book.now task.now }
         ensures { IfSome result (IsValid book.now task.now self.now.worker) }
     {
@@ -143,7 +143,7 @@ impl<'a, W: Wait, R: Racer> Cached<'a, W, R> {
     }
 
     // Puts an attempt's answer into the cache. If memory runs out, the answer is not kept, but is still used.
-    fn keep(&self, alloc: Global, task: &Task, attempt: &Attempt) {
+    fn put_answer(&self, alloc: Global, task: &Task, attempt: &Attempt) {
         if let Attempt::Said(answer) = attempt {
             let mut cache = self.cache.lock(self.rt);
             let _ = cache.put(alloc, self.top, task, answer);
@@ -179,11 +179,11 @@ impl<W: Wait, R: Racer> Racer for Cached<'_, W, R> {
         task: &Task,
         poll: &mut P,
     ) -> Result<Attempt, NoMemory> {
-        if let Some(fit) = self.looks.look(alloc, book, task)? {
+        if let Some(fit) = self.quick_fits.quick_fit(alloc, book, task)? {
             return Ok(Attempt::Said(Answer::Fit(fit)));
         }
-        let attempt = self.kept_or_tried(alloc, book, task, poll)?;
-        self.looks.keep_said(alloc, task, &attempt);
+        let attempt = self.cached_or_attempted(alloc, book, task, poll)?;
+        self.quick_fits.keep_attempted_fit(alloc, task, &attempt);
         Ok(attempt)
     }
 }
@@ -223,7 +223,7 @@ pub fn run_cached<G: Gate + Sync, W: Threads + Wait + Sync>(
 ) -> Result<Record, NoMemory>
     requires { IsOfAuction sc.now book.now }
     ensures backed { IfOk result (IsBacked sc.now book.now Order.ByVolume) }
-    ensures goes_on { IfOk result (GoesOnIn (opening sc.now book.now Order.ByVolume)) }
+    ensures continues { IfOk result (ContinuesIn (opening sc.now book.now Order.ByVolume)) }
 {
     let racers = cached_racers(rt, alloc, sc.top, sc.workers.as_slice(), cache)?;
     run_with(rt, alloc, sc, book, racers, gate)

@@ -1,26 +1,26 @@
 //! Runs auctions: the solvers of the workers race for each query.
 //!
-//! The crate uses `answer_board`, the solvers behind `solver_gate`, `batch_cache` and `first_looks`. `commands` calls
+//! The crate uses `answer_board`, the solvers behind `solver_gate`, `batch_cache` and `quick_fits`. `commands` calls
 //! it; no check knows of it.
 //!
 //! Modules, in reading order:
 //!
 //! - `run`: runs a complete auction.
 //! - `wave`: the workers race on a board.
-//! - `muster`, `runner`, `parting`: pair passes with racers, and separate them again.
+//! - `zip_runners`, `runner`, `unzip_runners`: pair passes with racers, and separate them again.
 //! - `serial`: the workers take one turn after another on one thread.
 //! - `cached`: a racer that asks a cache before it searches.
-//! - `watch`, `watching`: the poll of a worker on a board.
-//! - `standing`: the poll without a race.
+//! - `board_poll`, `watching`: the poll of a worker on a board.
+//! - `serial_poll`: the poll without a race.
 #![tactic(auto)]
 
+mod board_poll;
 pub mod cached;
-pub mod muster;
-pub mod parting;
 pub mod run;
 pub mod runner;
 pub mod serial;
-pub mod standing;
-mod watch;
+pub mod serial_poll;
+pub mod unzip_runners;
 mod watching;
 pub mod wave;
+pub mod zip_runners;

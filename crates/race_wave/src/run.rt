@@ -3,23 +3,23 @@
 //! early. So a serial turn after the wave settles the current query, which is why the loop ends.
 
 ghost use Rattle.std.specs.Prelude.{◌≡◌, ◌<◌, ◌≤◌, IfOk, Some, false, length, map, true};
-ghost use Rattle.solver_gate.specs.Racers.{worker_of};
+ghost use Rattle.solver_gate.specs.Racer.{worker_of};
 ghost use Rattle.pack_defs.specs.Scenario.{with_owners};
 ghost use Rattle.auction_core.specs.Backed.{IsBacked};
-ghost use Rattle.auction_core.specs.Postings.{GoesOnIn};
+ghost use Rattle.auction_core.specs.Postings.{ContinuesIn};
 ghost use Rattle.auction_core.specs.Setup.{IsOfAuction};
 ghost use Rattle.auction_core.specs.State.{has_ended, opening, queries_left};
-ghost use Rattle.turn_lock.specs.Passes.{IsPassIdle, known_of, standing};
+ghost use Rattle.turn_lock.specs.Passes.{IsPassIdle, known_of, pass_identity};
 ghost use Rattle.turn_lock.specs.Turns.{AllOf, StartsWith, each_new};
 ghost use Rattle.answer_board.specs.Boards.{AreAllOn, beginning_of, raised};
 ghost use Rattle.answer_board.specs.Entries.{numbered};
-ghost use Rattle.race_wave.specs.Rooms.{IsRoomFor};
-ghost use Rattle.race_wave.specs.Turns.{NearsEnd};
+ghost use Rattle.race_wave.specs.RunnerBuffers.{AreBuffersFor};
+ghost use Rattle.race_wave.specs.Serial.{ComesCloserToEnd};
 
-use crate::muster::mustered;
-use crate::parting::{Room, parted, room_for};
 use crate::serial::serial_turn;
+use crate::unzip_runners::{RunnerBuffers, buffers_for, unzip_runners};
 use crate::wave::wave;
+use crate::zip_runners::zip_runners;
 use answer_board::board::{Board, Pass};
 use auction_core::auction::Auction;
 use auction_core::record::Record;
@@ -63,34 +63,34 @@ struct AfterWave<R> {
 }
 
 // Runs a wave of the workers of a new board.
-fn waved<R: Racer + Send + Drop, G: Gate + Sync, W: Threads + Wait + Sync>(
+fn run_wave<R: Racer + Send + Drop, G: Gate + Sync, W: Threads + Wait + Sync>(
     rt: &W,
     alloc: Global,
     board: &Board,
     book: &Book,
     passes: Vec<Pass>,
     racers: Vec<R>,
-    room: Room<R>,
+    room: RunnerBuffers<R>,
     gate: &G,
 ) -> AfterWave<R>
     requires book { book.now ≡ (raised board.now).book }
-    requires all { AreAllOn board.now (map standing passes.items) }
+    requires all { AreAllOn board.now (map pass_identity passes.items) }
     requires idle { AllOf IsPassIdle passes.items }
     requires new { map known_of passes.items ≡ each_new (numbered (raised board.now).history) (length racers.items) }
     requires racers { map R.worker racers.items ≡ (raised board.now).scenario.workers }
-    requires room { IsRoomFor (length racers.items) room }
-    ensures all { AreAllOn board.now (map standing result.passes.items) }
+    requires room { AreBuffersFor (length racers.items) room }
+    ensures all { AreAllOn board.now (map pass_identity result.passes.items) }
     ensures idle { AllOf IsPassIdle result.passes.items }
     ensures racers { map R.worker result.racers.items ≡ map R.worker racers.items }
 {
-    let Room {
+    let RunnerBuffers {
         runners,
         passes: passes_left,
         racers: racers_left,
     } = room;
-    let mut runners = mustered(board, passes, racers, runners);
+    let mut runners = zip_runners(board, passes, racers, runners);
     let done = wave(rt, alloc, board, book, &mut runners, gate);
-    let (passes, racers) = parted(runners, passes_left, racers_left);
+    let (passes, racers) = unzip_runners(runners, passes_left, racers_left);
     AfterWave {
         done,
         passes,
@@ -109,22 +109,22 @@ struct AfterRace<R> {
 
 // Runs a wave of the workers of a new board, and closes the board. Has no early return, because a board cannot be
 // dropped.
-fn raced_on<R: Racer + Send + Drop, G: Gate + Sync, W: Threads + Wait + Sync>(
+fn race_on_board<R: Racer + Send + Drop, G: Gate + Sync, W: Threads + Wait + Sync>(
     rt: &W,
     alloc: Global,
     board: Board,
     book: &Book,
     passes: Vec<Pass>,
     racers: Vec<R>,
-    room: Room<R>,
+    room: RunnerBuffers<R>,
     gate: &G,
 ) -> AfterRace<R>
     requires book { book.now ≡ (raised board).book }
-    requires all { AreAllOn board (map standing passes.items) }
+    requires all { AreAllOn board (map pass_identity passes.items) }
     requires idle { AllOf IsPassIdle passes.items }
     requires new { map known_of passes.items ≡ each_new (numbered (raised board).history) (length racers.items) }
     requires racers { map R.worker racers.items ≡ (raised board).scenario.workers }
-    requires room { IsRoomFor (length racers.items) room }
+    requires room { AreBuffersFor (length racers.items) room }
     ensures beginning { beginning_of result.auction ≡ beginning_of (raised board) }
     ensures history { StartsWith result.auction.history (raised board).history }
     ensures racers { map R.worker result.racers.items ≡ map R.worker racers.items }
@@ -133,7 +133,7 @@ fn raced_on<R: Racer + Send + Drop, G: Gate + Sync, W: Threads + Wait + Sync>(
         done,
         passes,
         racers,
-    } = waved(rt, alloc, &board, book, passes, racers, room, gate);
+    } = run_wave(rt, alloc, &board, book, passes, racers, room, gate);
     let auction = board.close(passes);
     AfterRace {
         done,
@@ -143,7 +143,7 @@ fn raced_on<R: Racer + Send + Drop, G: Gate + Sync, W: Threads + Wait + Sync>(
 }
 
 // Returns the auction and the racers, unless memory ran out for each worker.
-fn if_done<R: Drop>(
+fn unless_out_of_memory<R: Drop>(
     done: Result<(), NoMemory>,
     auction: Auction,
     racers: Vec<R>,
@@ -156,22 +156,22 @@ fn if_done<R: Drop>(
     }
 }
 
-// Does what `raced` does, with the buffers given.
-fn raced_in<R: Racer + Send + Drop, G: Gate + Sync, W: Threads + Wait + Sync>(
+// Does what `run_race` does, with the buffers given.
+fn race_with_buffers<R: Racer + Send + Drop, G: Gate + Sync, W: Threads + Wait + Sync>(
     rt: &W,
     alloc: Global,
     book: &Book,
     auction: Auction,
     racers: Vec<R>,
-    room: Room<R>,
+    room: RunnerBuffers<R>,
     gate: &G,
 ) -> Result<(Auction, Vec<R>), NoMemory>
     requires book { auction.book ≡ book.now }
     requires racers { map R.worker racers.items ≡ auction.scenario.workers }
-    requires room { IsRoomFor (length racers.items) room }
+    requires room { AreBuffersFor (length racers.items) room }
     ensures beginning { IfOk result (λ r. beginning_of r.0 ≡ beginning_of auction) }
     ensures history { IfOk result (λ r. StartsWith r.0.history auction.history) }
-    ensures nears_end { IfOk result (λ r. NearsEnd auction.scenario auction.state r.0.state) }
+    ensures comes_closer_to_end { IfOk result (λ r. ComesCloserToEnd auction.scenario auction.state r.0.state) }
     ensures racers { IfOk result (λ r. map R.worker r.1.items ≡ map R.worker racers.items) }
 {
     // For its clauses alone: what the history replays to.
@@ -184,13 +184,13 @@ fn raced_in<R: Racer + Send + Drop, G: Gate + Sync, W: Threads + Wait + Sync>(
         done,
         auction,
         racers,
-    } = raced_on(rt, alloc, board, book, passes, racers, room, gate);
+    } = race_on_board(rt, alloc, board, book, passes, racers, room, gate);
     auction.keeps_the_rule();
-    if_done(done, auction, racers)
+    unless_out_of_memory(done, auction, racers)
 }
 
 // Returns the auction after a wave of its workers, and their racers.
-fn raced<R: Racer + Send + Drop, G: Gate + Sync, W: Threads + Wait + Sync>(
+fn run_race<R: Racer + Send + Drop, G: Gate + Sync, W: Threads + Wait + Sync>(
     rt: &W,
     alloc: Global,
     book: &Book,
@@ -202,16 +202,16 @@ fn raced<R: Racer + Send + Drop, G: Gate + Sync, W: Threads + Wait + Sync>(
     requires racers { map R.worker racers.items ≡ auction.scenario.workers }
     ensures beginning { IfOk result (λ r. beginning_of r.0 ≡ beginning_of auction) }
     ensures history { IfOk result (λ r. StartsWith r.0.history auction.history) }
-    ensures nears_end { IfOk result (λ r. NearsEnd auction.scenario auction.state r.0.state) }
+    ensures comes_closer_to_end { IfOk result (λ r. ComesCloserToEnd auction.scenario auction.state r.0.state) }
     ensures racers { IfOk result (λ r. map R.worker r.1.items ≡ map R.worker racers.items) }
 {
-    let room = room_for(alloc, count_of(&auction))?;
-    raced_in(rt, alloc, book, auction, racers, room, gate)
+    let room = buffers_for(alloc, count_of(&auction))?;
+    race_with_buffers(rt, alloc, book, auction, racers, room, gate)
 }
 
 // Returns the auction after a wave of its workers and a serial turn, and the racers. Unless the auction had ended,
 // fewer queries are left.
-fn wave_and_turn<R: Racer + Send + Drop, G: Gate + Sync, W: Threads + Wait + Sync>(
+fn wave_then_serial<R: Racer + Send + Drop, G: Gate + Sync, W: Threads + Wait + Sync>(
     rt: &W,
     alloc: Global,
     book: &Book,
@@ -226,13 +226,13 @@ fn wave_and_turn<R: Racer + Send + Drop, G: Gate + Sync, W: Threads + Wait + Syn
     ensures racers { IfOk result (λ r. map R.worker r.1.items ≡ map R.worker racers.items) }
     ensures fewer { IfOk result (λ r. has_ended auction.state ≡ false → queries_left auction.scenario r.0.state < queries_left auction.scenario auction.state) }
 {
-    let (mut auction, mut racers) = raced(rt, alloc, book, auction, racers, gate)?;
+    let (mut auction, mut racers) = run_race(rt, alloc, book, auction, racers, gate)?;
     serial_turn(alloc, &mut auction, &mut racers)?;
     Ok((auction, racers))
 }
 
 // Runs waves and serial turns until the auction has ended.
-fn ended<R: Racer + Send + Drop, G: Gate + Sync, W: Threads + Wait + Sync>(
+fn run_to_end<R: Racer + Send + Drop, G: Gate + Sync, W: Threads + Wait + Sync>(
     rt: &W,
     alloc: Global,
     mut auction: Auction,
@@ -247,7 +247,7 @@ fn ended<R: Racer + Send + Drop, G: Gate + Sync, W: Threads + Wait + Sync>(
     ensures ended { IfOk result (λ r. has_ended r.state ≡ true) }
 {
     'waves: while !auction.ended() {
-        (auction, racers) = wave_and_turn(rt, alloc, book, auction, racers, gate)?;
+        (auction, racers) = wave_then_serial(rt, alloc, book, auction, racers, gate)?;
     }
     Ok(auction)
 }
@@ -268,11 +268,11 @@ fn finish_with<R: Racer + Send + Drop, G: Gate + Sync, W: Threads + Wait + Sync>
     requires book { book.now ≡ auction.book }
     requires racers { map R.worker racers.items ≡ auction.scenario.workers }
     ensures backed { IfOk result (IsBacked scenario book.now auction.state.order) }
-    ensures goes_on { IfOk result (GoesOnIn auction.state) }
+    ensures continues { IfOk result (ContinuesIn auction.state) }
 {
     // For its clauses alone: what the history replays to.
     auction.keeps_the_rule();
-    let auction = ended(rt, alloc, auction, book, racers, gate)?;
+    let auction = run_to_end(rt, alloc, auction, book, racers, gate)?;
     auction.keeps_the_rule();
     let record = auction.into_result(alloc, scenario)?;
     Ok(record)
@@ -293,7 +293,7 @@ pub fn run_with<R: Racer + Send + Drop, G: Gate + Sync, W: Threads + Wait + Sync
     requires auction { IsOfAuction sc.now book.now }
     requires racers { map R.worker racers.items ≡ sc.now.workers }
     ensures backed { IfOk result (IsBacked sc.now book.now Order.ByVolume) }
-    ensures goes_on { IfOk result (GoesOnIn (opening sc.now book.now Order.ByVolume)) }
+    ensures continues { IfOk result (ContinuesIn (opening sc.now book.now Order.ByVolume)) }
 {
     let auction = Auction::start(alloc, sc, book, Order::ByVolume)?;
     let scenario = sc.copy(alloc)?;
@@ -315,7 +315,7 @@ pub fn go_on<G: Gate + Sync, W: Threads + Wait + Sync>(
     requires scenario { scenario ≡ auction.scenario }
     requires book { book.now ≡ auction.book }
     ensures backed { IfOk result (IsBacked scenario book.now auction.state.order) }
-    ensures goes_on { IfOk result (GoesOnIn auction.state) }
+    ensures continues { IfOk result (ContinuesIn auction.state) }
 {
     let racers = racers_of(alloc, auction.workers())?;
     finish_with(rt, alloc, auction, scenario, book, racers, gate)
@@ -332,7 +332,7 @@ pub fn run_auction<G: Gate + Sync, W: Threads + Wait + Sync>(
 ) -> Result<Record, NoMemory>
     requires { IsOfAuction sc.now book.now }
     ensures backed { IfOk result (IsBacked sc.now book.now Order.ByVolume) }
-    ensures goes_on { IfOk result (GoesOnIn (opening sc.now book.now Order.ByVolume)) }
+    ensures continues { IfOk result (ContinuesIn (opening sc.now book.now Order.ByVolume)) }
 {
     let racers = racers_of(alloc, sc.workers.as_slice())?;
     run_with(rt, alloc, sc, book, racers, gate)
@@ -351,7 +351,7 @@ pub fn run_live<G: Gate + Sync, W: Threads + Wait + Sync>(
 ) -> Result<Record, NoMemory>
     requires { IsOfAuction sc.now book.now }
     ensures backed { IfOk result (IsBacked (with_owners sc.now (Some owners.now)) book.now Order.ByVolume) }
-    ensures goes_on { IfOk result (GoesOnIn (opening (with_owners sc.now (Some owners.now)) book.now Order.ByVolume)) }
+    ensures continues { IfOk result (ContinuesIn (opening (with_owners sc.now (Some owners.now)) book.now Order.ByVolume)) }
 {
     let live = sc.with_owners(alloc, owners)?;
     run_auction(rt, alloc, &live, book, gate)

@@ -6,14 +6,14 @@ ghost use Rattle.std.specs.Thread.{IsSync};
 ghost use Rattle.cert_types.specs.Query.{IsQuery};
 ghost use Rattle.turn_lock.specs.Passes.{IsLegal, IsPassIdle, mine_of, pass_number, seen_of};
 ghost use Rattle.answer_board.specs.Boards.{IsPassOn, raised};
-ghost use Rattle.answer_board.specs.Posts.{HasStood};
+ghost use Rattle.answer_board.specs.Posts.{WasCurrent};
 ghost use Rattle.cert_types.specs.Valid.{IsValid};
 ghost use Rattle.pack_defs.specs.declared.worker.Worker.{Worker};
 ghost use Rattle.race_wave.specs.Watches.{IsNumberAfter};
-ghost use Rattle.race_wave.specs.Waves.{HasRaced, SeesNothingLeft, IsRunner, IsSamePass, SaysValid, is_last};
+ghost use Rattle.race_wave.specs.Wave.{HasRaced, SeesNothingLeft, IsRunner, IsSamePass, SaysValid, is_last_reply};
 
+use crate::board_poll::BoardPoll;
 use crate::runner::Runner;
-use crate::watch::BoardPoll;
 use answer_board::board::{Board, Pass};
 use answer_board::look::Look;
 use auction_core::posting::Reply;
@@ -59,7 +59,7 @@ pub fn wave<R: Racer + Send, G: Gate + Sync, W: Threads + Wait + Sync>(
     let part = |_: usize, runner: &mut Runner<R>|
         requires { IsSync W.row × IsSync G.row × (book.now ≡ (raised board.now).book) × IsRunner board.now runner.now.pass (R.worker runner.now.racer) }
         ensures { HasRaced R.worker board.entry.now runner.entry.now runner.exit.now }
-    { run_part(rt, alloc, board, book, runner, gate) };
+    { run_runner(rt, alloc, board, book, runner, gate) };
     thread::for_each_mut(rt, runners, threads, &part);
     if are_refused(runners) {
         return Err(NoMemory);
@@ -75,7 +75,7 @@ fn are_refused<R>(runners: &[Runner<R>]) -> bool
 }
 
 // A worker's part of a wave.
-fn run_part<R: Racer, G: Gate, W: Wait>(
+fn run_runner<R: Racer, G: Gate, W: Wait>(
     rt: &W,
     alloc: Global,
     board: &Board,
@@ -101,11 +101,11 @@ fn run_part<R: Racer, G: Gate, W: Wait>(
 
 // How a worker continues.
 #[derive(Clone, Copy, Debug, PartialEq, Eq)]
-enum Onward {
+enum NextMove {
     // It looks at the current query.
-    Looks,
+    LookAgain,
     // It has nothing left to do.
-    Rests,
+    LeaveWave,
 }
 
 // Runs a worker's part of a wave to its end.
@@ -127,16 +127,16 @@ fn race<R: Racer, G: Gate, W: Wait>(
     ensures done { IfOk result (λ _. SeesNothingLeft board.now pass.new) }
 {
     for _ in rt.forever() {
-        match one_look(rt, alloc, board, book, pass, racer, gate)? {
-            Onward::Looks => {}
-            Onward::Rests => return Ok(()),
+        match look_and_try(rt, alloc, board, book, pass, racer, gate)? {
+            NextMove::LookAgain => {}
+            NextMove::LeaveWave => return Ok(()),
         }
     }
     unreachable!()
 }
 
 // Lets the worker look at the current query, try it, and post its answer.
-fn one_look<R: Racer, G: Gate, W: Wait>(
+fn look_and_try<R: Racer, G: Gate, W: Wait>(
     rt: &W,
     alloc: Global,
     board: &Board,
@@ -144,24 +144,24 @@ fn one_look<R: Racer, G: Gate, W: Wait>(
     pass: &mut Pass,
     racer: &mut R,
     gate: &G,
-) -> Result<Onward, NoMemory>
+) -> Result<NextMove, NoMemory>
     requires book { book.now ≡ (raised board.now).book }
     requires runner { IsRunner board.now pass.old (R.worker racer.old) }
     ensures runner { IsRunner board.now pass.new (R.worker racer.new) }
     ensures same { IsSamePass pass.old pass.new }
     ensures legal { IsLegal pass.new }
     ensures worker { R.worker racer.new ≡ R.worker racer.old }
-    ensures done { IfOk result (λ onward. onward ≡ Onward.Rests → SeesNothingLeft board.now pass.new) }
+    ensures done { IfOk result (λ onward. onward ≡ NextMove.LeaveWave → SeesNothingLeft board.now pass.new) }
 {
     match board.look(rt, alloc, pass) {
-        Ok(Look::Task(task)) => tries(rt, alloc, board, book, pass, racer, gate, &task),
-        Ok(Look::Ended) => Ok(Onward::Rests),
+        Ok(Look::Task(task)) => try_and_post(rt, alloc, board, book, pass, racer, gate, &task),
+        Ok(Look::Ended) => Ok(NextMove::LeaveWave),
         Err(fault) => Err(fault),
     }
 }
 
 // Lets the worker try a query, and posts its answer.
-fn tries<R: Racer, G: Gate, W: Wait>(
+fn try_and_post<R: Racer, G: Gate, W: Wait>(
     rt: &W,
     alloc: Global,
     board: &Board,
@@ -170,10 +170,10 @@ fn tries<R: Racer, G: Gate, W: Wait>(
     racer: &mut R,
     gate: &G,
     task: &Task,
-) -> Result<Onward, NoMemory>
+) -> Result<NextMove, NoMemory>
     requires book { book.now ≡ (raised board.now).book }
     requires query { IsQuery book.now task.now }
-    requires stood { HasStood (raised board.now) (seen_of pass.old) task.now }
+    requires was_current { WasCurrent (raised board.now) (seen_of pass.old) task.now }
     requires number { IsNumberAfter board.now (seen_of pass.old) task.now.number }
     requires legal { IsLegal pass.old }
     requires runner { IsRunner board.now pass.old (R.worker racer.old) }
@@ -181,31 +181,37 @@ fn tries<R: Racer, G: Gate, W: Wait>(
     ensures same { IsSamePass pass.old pass.new }
     ensures legal { IsLegal pass.new }
     ensures worker { R.worker racer.new ≡ R.worker racer.old }
-    ensures done { IfOk result (λ onward. onward ≡ Onward.Rests → SeesNothingLeft board.now pass.new) }
+    ensures done { IfOk result (λ onward. onward ≡ NextMove.LeaveWave → SeesNothingLeft board.now pass.new) }
 {
-    match attempted(rt, alloc, board, book, pass, racer, task) {
+    match attempt_with_poll(rt, alloc, board, book, pass, racer, task) {
         Ok(Attempt::Said(answer)) => {
-            let certified = of_worker(board, book, pass, task, answer);
-            posts(rt, board, pass, gate, task.number, certified)
+            let certified = certify_for_worker(board, book, pass, task, answer);
+            post_through_gate(rt, board, pass, gate, task.number, certified)
         }
-        Ok(Attempt::Moved { now: _ }) => Ok(Onward::Looks),
+        Ok(Attempt::Moved { now: _ }) => Ok(NextMove::LookAgain),
         Err(fault) => Err(fault),
     }
 }
 
 // Returns the answer of the pass's worker as accepted without a check: its racer's contract says that it is valid.
-fn of_worker(board: &Board, book: &Book, pass: &Pass, task: &Task, answer: Answer) -> Certified
+fn certify_for_worker(
+    board: &Board,
+    book: &Book,
+    pass: &Pass,
+    task: &Task,
+    answer: Answer,
+) -> Certified
     requires valid { (worker : Worker) × (slice_get (raised board.now).scenario.workers (pass_number pass.now) ≡ Some worker) × IsValid book.now task.now worker answer }
     ensures book { result.book ≡ book.now }
     ensures task { result.task ≡ task.now }
     ensures worker { slice_get (raised board.now).scenario.workers (pass_number pass.now) ≡ Some result.worker }
 {
     let worker = &board.workers()[pass.number() as usize];
-    Certified::of_valid(book, task, worker, answer)
+    Certified::from_valid(book, task, worker, answer)
 }
 
 // Lets the racer try a query, while the pass polls whether the query is still current.
-fn attempted<R: Racer, W: Wait>(
+fn attempt_with_poll<R: Racer, W: Wait>(
     rt: &W,
     alloc: Global,
     board: &Board,
@@ -237,25 +243,25 @@ fn attempted<R: Racer, W: Wait>(
 }
 
 // Posts an accepted answer, and calls the gate before and after.
-fn posts<G: Gate, W: Wait>(
+fn post_through_gate<G: Gate, W: Wait>(
     rt: &W,
     board: &Board,
     pass: &mut Pass,
     gate: &G,
     number: u64,
     certified: Certified,
-) -> Result<Onward, NoMemory>
+) -> Result<NextMove, NoMemory>
     requires own { IsPassOn board.now pass.old }
     requires idle { IsPassIdle pass.old }
     requires book { certified.book ≡ (raised board.now).book }
     requires worker { slice_get (raised board.now).scenario.workers (pass_number pass.old) ≡ Some certified.worker }
-    requires stood { HasStood (raised board.now) (seen_of pass.old) certified.task }
+    requires was_current { WasCurrent (raised board.now) (seen_of pass.old) certified.task }
     requires number { number ≡ certified.task.number }
     ensures own { IsPassOn board.now pass.new }
     ensures idle { IsPassIdle pass.new }
     ensures same { IsSamePass pass.old pass.new }
     ensures legal { IsLegal pass.new }
-    ensures done { IfOk result (λ onward. onward ≡ Onward.Rests → SeesNothingLeft board.now pass.new) }
+    ensures done { IfOk result (λ onward. onward ≡ NextMove.LeaveWave → SeesNothingLeft board.now pass.new) }
 {
     let worker = pass.number();
     gate.at(Spot::BeforePost, worker, number);
@@ -263,15 +269,15 @@ fn posts<G: Gate, W: Wait>(
         return Err(NoMemory);
     };
     gate.at(Spot::AfterPost, worker, number);
-    if is_last(reply) {
-        return Ok(Onward::Rests);
+    if is_last_reply(reply) {
+        return Ok(NextMove::LeaveWave);
     }
-    Ok(Onward::Looks)
+    Ok(NextMove::LookAgain)
 }
 
 // Whether a worker has nothing left to do after this reply.
-fn is_last(reply: Reply) -> bool
-    ensures { result ≡ is_last reply }
+fn is_last_reply(reply: Reply) -> bool
+    ensures { result ≡ is_last_reply reply }
 {
     match reply {
         Reply::Ended | Reply::AlreadySpent | Reply::Noted => true,

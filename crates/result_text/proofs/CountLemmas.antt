@@ -9,12 +9,12 @@ use Rattle.pack_defs.specs.Book.{BookView}
 use Rattle.pack_defs.specs.declared.scenario.Scenario.{Scenario}
 use Rattle.pack_defs.specs.Scenario.{StationsAscend, facilities}
 use Rattle.pack_defs.specs.ClockRule.{ClockTest, ClockState, FrozenAt, OnAirSince, after_tests, clock_rule, clock_tests, is_listed, opening_state}
-use Rattle.pack_defs.specs.Standing.{entries_of}
+use Rattle.pack_defs.specs.StationEntries.{station_entry_count}
 use Rattle.pack_defs.proofs.Members.{Contains-from_filter, Contains-here, Contains-there, is_in-gives, list_any-from}
 use Rattle.pack_defs.proofs.Rounds.{Apart, apart_from_increasing}
-use Rattle.pack_defs.proofs.Standings.{never_there}
-use Rattle.auction_core.specs.declared.clock.Standing.{Standing}
-use Rattle.auction_core.specs.Clock.{AreStandings, standing_of, stands_frozen, stands_on_air}
+use Rattle.pack_defs.proofs.StationEntryLemmas.{never_there}
+use Rattle.auction_core.specs.declared.clock.StationStatus.{StationStatus}
+use Rattle.auction_core.specs.Clock.{AreStatuses, status_of, is_status_frozen, is_status_on_air}
 use Rattle.result_text.specs.ResultText.{count_line, each_frozen_by, frozen_by, summary_text}
 use Rattle.auction_core.proofs.ClockLemmas.{length-standings}
 use Rattle.auction_core.proofs.Finds.{find_cases, is_in-here, is_in-later}
@@ -97,7 +97,7 @@ no-stranger sc book undecided tests =
     }
 
 -- A station with one entry has it on air exactly if its standing is on air; the same for a frozen one.
-count_by-on_air : (st : ClockState) (s : ℕ) → entries_of st s ≡ 1 → count_by (λ (x : OnAirSince). eqb x.station s) st.on_air ≡ cond (stands_on_air (standing_of st s)) 1 0
+count_by-on_air : (st : ClockState) (s : ℕ) → station_entry_count st s ≡ 1 → count_by (λ (x : OnAirSince). eqb x.station s) st.on_air ≡ cond (is_status_on_air (status_of st s)) 1 0
 count_by-on_air st s once =
     elim (find_cases (λ (x : FrozenAt). eqb x.station s) st.frozen) [
       | inr f ↦ rw f.1 (omega (arith, once, f.4))
@@ -107,7 +107,7 @@ count_by-on_air st s once =
       ]
     ]
 
-count_by-frozen : (st : ClockState) (s : ℕ) → entries_of st s ≡ 1 → count_by (λ (x : FrozenAt). eqb x.station s) st.frozen ≡ cond (stands_frozen (standing_of st s)) 1 0
+count_by-frozen : (st : ClockState) (s : ℕ) → station_entry_count st s ≡ 1 → count_by (λ (x : FrozenAt). eqb x.station s) st.frozen ≡ cond (is_status_frozen (status_of st s)) 1 0
 count_by-frozen st s once =
     elim (find_cases (λ (x : FrozenAt). eqb x.station s) st.frozen) [
       | inr f ↦ rw f.1 (omega (arith, once, f.4))
@@ -122,18 +122,18 @@ count_by-map p f [] = refl
 count_by-map p f (x ∷ xs) = omega (arith, sum_by-cons (λ y. cond (p y) 1 0) (f x) (map f xs), sum_by-cons (λ y. cond (p (f y)) 1 0) x xs, count_by-map p f xs)
 
 -- The number on air is that of the standings.
-on_air-count : {sc : Scenario} {st : ClockState} {v : List Standing} → StationsAscend sc → AreStandings sc st v → HasNoStranger sc st → count_by stands_on_air v ≡ length st.on_air
+on_air-count : {sc : Scenario} {st : ClockState} {v : List StationStatus} → StationsAscend sc → AreStatuses sc st v → HasNoStranger sc st → count_by is_status_on_air v ≡ length st.on_air
 on_air-count {sc} {st} {v} ascend are own =
-    ap (count_by stands_on_air) are.each
-    ∙ (count_by-map stands_on_air (standing_of st) (facilities sc)
+    ap (count_by is_status_on_air) are.each
+    ∙ (count_by-map is_status_on_air (status_of st) (facilities sc)
     ∙ (sym (sum_by-agree _ _ (facilities sc) (λ s there. count_by-on_air st s (are.once s (is_in-gives (facilities sc) s there))))
     ∙ sum-of_entries (λ (x : OnAirSince). x.station) (facilities sc) st.on_air (apart_from_increasing (facilities sc) ascend) own.on_air))
 
 -- The number frozen is that of the standings.
-frozen-count : {sc : Scenario} {st : ClockState} {v : List Standing} → StationsAscend sc → AreStandings sc st v → HasNoStranger sc st → count_by stands_frozen v ≡ length st.frozen
+frozen-count : {sc : Scenario} {st : ClockState} {v : List StationStatus} → StationsAscend sc → AreStatuses sc st v → HasNoStranger sc st → count_by is_status_frozen v ≡ length st.frozen
 frozen-count {sc} {st} {v} ascend are own =
-    ap (count_by stands_frozen) are.each
-    ∙ (count_by-map stands_frozen (standing_of st) (facilities sc)
+    ap (count_by is_status_frozen) are.each
+    ∙ (count_by-map is_status_frozen (status_of st) (facilities sc)
     ∙ (sym (sum_by-agree _ _ (facilities sc) (λ s there. count_by-frozen st s (are.once s (is_in-gives (facilities sc) s there))))
     ∙ sum-of_entries (λ (x : FrozenAt). x.station) (facilities sc) st.frozen (apart_from_increasing (facilities sc) ascend) own.frozen))
 
@@ -178,10 +178,10 @@ count_by-one q p (x ∷ xs) f found one =
             | false ↦ rest
           ])
       | false ↦ λ other is.
-          let nought : cond {A = ℕ} (q x) 1 0 ≡ 0 = cond-false (q x) 1 0 other in
-          let rest = count_by-one q p xs f is (omega (arith, split, one, nought)) in
+          let is_zero : cond {A = ℕ} (q x) 1 0 ≡ 0 = cond-false (q x) 1 0 other in
+          let rest = count_by-one q p xs f is (omega (arith, split, one, is_zero)) in
           elim (p x) as (λ b. count_by q (cond b (x ∷ filter p xs) (filter p xs)) ≡ cond (p f) 1 0) [
-            | true ↦ omega (arith, sum_by-cons (λ y. cond (q y) 1 0) x (filter p xs), nought, rest)
+            | true ↦ omega (arith, sum_by-cons (λ y. cond (q y) 1 0) x (filter p xs), is_zero, rest)
             | false ↦ rest
           ]
     ]) refl found
@@ -191,7 +191,7 @@ abbrev is_of : List ClockTest → FrozenAt → Bool
 is_of tests x = is_listed tests (record { round = x.round; station = x.station })
 
 -- A station with one entry has it frozen by one of these tests exactly if its standing says so.
-count_by-frozen_by : (tests : List ClockTest) (st : ClockState) (s : ℕ) → entries_of st s ≡ 1 → count_by (λ (x : FrozenAt). eqb x.station s) (filter (is_of tests) st.frozen) ≡ cond (frozen_by tests s (standing_of st s)) 1 0
+count_by-frozen_by : (tests : List ClockTest) (st : ClockState) (s : ℕ) → station_entry_count st s ≡ 1 → count_by (λ (x : FrozenAt). eqb x.station s) (filter (is_of tests) st.frozen) ≡ cond (frozen_by tests s (status_of st s)) 1 0
 count_by-frozen_by tests st s once =
     elim (find_cases (λ (x : FrozenAt). eqb x.station s) st.frozen) [
       | inr f ↦
@@ -206,13 +206,13 @@ count_by-frozen_by tests st s once =
           ]
     ]
 
-count_by-each : (tests : List ClockTest) (st : ClockState) (fs : List ℕ) → count_by (λ (u : Bool). u) (each_frozen_by tests fs (map (standing_of st) fs)) ≡ sum_by (λ s. cond (frozen_by tests s (standing_of st s)) 1 0) fs
+count_by-each : (tests : List ClockTest) (st : ClockState) (fs : List ℕ) → count_by (λ (u : Bool). u) (each_frozen_by tests fs (map (status_of st) fs)) ≡ sum_by (λ s. cond (frozen_by tests s (status_of st s)) 1 0) fs
 count_by-each tests st [] = refl
 count_by-each tests st (f ∷ fs) =
-    omega (arith, sum_by-cons (λ (u : Bool). cond u 1 0) (frozen_by tests f (standing_of st f)) (each_frozen_by tests fs (map (standing_of st) fs)), sum_by-cons (λ s. cond (frozen_by tests s (standing_of st s)) 1 0) f fs, count_by-each tests st fs)
+    omega (arith, sum_by-cons (λ (u : Bool). cond u 1 0) (frozen_by tests f (status_of st f)) (each_frozen_by tests fs (map (status_of st) fs)), sum_by-cons (λ s. cond (frozen_by tests s (status_of st s)) 1 0) f fs, count_by-each tests st fs)
 
 -- The number undecided is that of the entries frozen by one of these tests.
-undecided-count : {sc : Scenario} {st : ClockState} {v : List Standing} (tests : List ClockTest) → StationsAscend sc → AreStandings sc st v → HasNoStranger sc st → count_by (λ (u : Bool). u) (each_frozen_by tests (facilities sc) v) ≡ count_by (is_of tests) st.frozen
+undecided-count : {sc : Scenario} {st : ClockState} {v : List StationStatus} (tests : List ClockTest) → StationsAscend sc → AreStatuses sc st v → HasNoStranger sc st → count_by (λ (u : Bool). u) (each_frozen_by tests (facilities sc) v) ≡ count_by (is_of tests) st.frozen
 undecided-count {sc} {st} {v} tests ascend are own =
     ap (λ xs. count_by (λ (u : Bool). u) (each_frozen_by tests (facilities sc) xs)) are.each
     ∙ (count_by-each tests st (facilities sc)
@@ -223,14 +223,14 @@ undecided-count {sc} {st} {v} tests ascend are own =
 -- ---- the summary
 
 -- The summary's lines, from the standings, the undecided stations and the total.
-summary-lines : {sc : Scenario} {st : ClockState} {v : List Standing} (tests : List ClockTest) (us : List Bool) (total : ℕ) → StationsAscend sc → AreStandings sc st v → us ≡ each_frozen_by tests (facilities sc) v → HasNoStranger sc st → total ≡ sum_by (λ x. x.price) st.frozen →
-    count_line (codes "stations") (length v) ++ count_line (codes "on-air") (count_by stands_on_air v) ++ count_line (codes "frozen") (count_by stands_frozen v) ++ count_line (codes "undecided") (count_by (λ u. u) us) ++ count_line (codes "total") total ≡ summary_text sc st tests
+summary-lines : {sc : Scenario} {st : ClockState} {v : List StationStatus} (tests : List ClockTest) (us : List Bool) (total : ℕ) → StationsAscend sc → AreStatuses sc st v → us ≡ each_frozen_by tests (facilities sc) v → HasNoStranger sc st → total ≡ sum_by (λ x. x.price) st.frozen →
+    count_line (codes "stations") (length v) ++ count_line (codes "on-air") (count_by is_status_on_air v) ++ count_line (codes "frozen") (count_by is_status_frozen v) ++ count_line (codes "undecided") (count_by (λ u. u) us) ++ count_line (codes "total") total ≡ summary_text sc st tests
 unfolding summary_text
 summary-lines {sc} {st} {v} tests us total ascend are marks own paid =
     rw (marks, length-standings are, on_air-count ascend are own, frozen-count ascend are own, undecided-count tests ascend are own, paid) refl
 
 -- The same at the end of the clock rule.
-pub rule-summary : {sc : Scenario} {v : List Standing} (book : BookView) (order : Order) (tests : List ClockTest) (us : List Bool) (total : ℕ) → StationsAscend sc → AreStandings sc (clock_rule sc book order tests) v → us ≡ each_frozen_by tests (facilities sc) v → total ≡ sum_by (λ x. x.price) (clock_rule sc book order tests).frozen →
-    count_line (codes "stations") (length v) ++ count_line (codes "on-air") (count_by stands_on_air v) ++ count_line (codes "frozen") (count_by stands_frozen v) ++ count_line (codes "undecided") (count_by (λ u. u) us) ++ count_line (codes "total") total ≡ summary_text sc (clock_rule sc book order tests) tests
+pub rule-summary : {sc : Scenario} {v : List StationStatus} (book : BookView) (order : Order) (tests : List ClockTest) (us : List Bool) (total : ℕ) → StationsAscend sc → AreStatuses sc (clock_rule sc book order tests) v → us ≡ each_frozen_by tests (facilities sc) v → total ≡ sum_by (λ x. x.price) (clock_rule sc book order tests).frozen →
+    count_line (codes "stations") (length v) ++ count_line (codes "on-air") (count_by is_status_on_air v) ++ count_line (codes "frozen") (count_by is_status_frozen v) ++ count_line (codes "undecided") (count_by (λ u. u) us) ++ count_line (codes "total") total ≡ summary_text sc (clock_rule sc book order tests) tests
 unfolding clock_rule
 rule-summary {sc} {v} book order tests us total ascend are marks paid = summary-lines tests us total ascend are marks (no-stranger sc book tests (clock_tests sc order)) paid

@@ -7,18 +7,18 @@ use Rattle.pack_defs.specs.declared.scenario.Scenario.{Scenario}
 use Rattle.pack_defs.specs.Scenario.{facilities}
 use Rattle.pack_defs.specs.Book.{BookView}
 use Rattle.pack_defs.specs.Prices.{last_round}
-use Rattle.pack_defs.specs.ClockRule.{ClockTest, ClockState, after_test, after_tests, asked_from, asked_tests, bidders_in_turn, clock_rule, clock_tests, is_active, is_listed, opening_state, tests_of, turns}
+use Rattle.pack_defs.specs.ClockRule.{ClockTest, ClockState, after_test, after_tests, asked_from, asked_tests, bidders_in_order, clock_rule, clock_tests, is_active, is_listed, opening_state, tests_of, round_order}
 use Rattle.pack_defs.proofs.ClockSteps.{test_idle}
 use Rattle.pack_defs.proofs.TestOrder.{TestsApart, clock_apart, in_turn}
-use Rattle.pack_defs.proofs.Turns.{turns-have}
+use Rattle.pack_defs.proofs.RoundOrderLemmas.{turns-have}
 use Rattle.pack_defs.proofs.Members.{Contains-cons_cases, Contains-from_filter, Contains-from_map, Contains-here, Contains-map, Contains-nil, Contains-there, is_in-from, is_in-gives}
 use Rattle.auction_core.specs.declared.record.Record.{Record}
 use Rattle.auction_core.specs.declared.record.Step.{Step}
 use Rattle.auction_core.specs.declared.record.Ending.TheVariants.{Done}
 use Rattle.auction_core.specs.State.{CoreState, settled, shows_room, test_of}
-use Rattle.auction_core.specs.Backed.{AreShown, IsBacked, IsCarriedThrough, IsEnded, after_start, after_steps, is_undecided, undecided_of}
+use Rattle.auction_core.specs.Backed.{AreShown, IsBacked, IsCompleted, IsEnded, after_start, after_steps, is_undecided, undecided_of}
 use Rattle.auction_core.specs.Rule.{IsAuction}
-use Rattle.auction_core.specs.Walked.{FitsStand}
+use Rattle.auction_core.specs.ClockProgress.{FitsStayClean}
 use Rattle.auction_core.proofs.Done.{AreListed, asked-apart, done-room, listed-shown, step-moves}
 use Rattle.auction_core.proofs.Room.{IsOf, new-map}
 use Rattle.auction_core.proofs.Sets.{fits-stand-first, fits-stand-step}
@@ -44,9 +44,9 @@ tests_of-has xs r (suc n) t h =
 -- A test of the clock is of a station of the scenario, in one of its rounds.
 clock_tests-has : (sc : Scenario) (order : Order) (t : ClockTest) → Contains (clock_tests sc order) t → Contains (facilities sc) t.station × (1 ≤ t.round) × (t.round ≤ last_round sc)
 clock_tests-has sc order t h =
-    let has = tests_of-has (bidders_in_turn sc order) 1 (last_round sc) t h in
-    let comes = (Contains-from_filter _ (turns sc order) t.station has.0).0 in
-    (is_in-gives (facilities sc) t.station (sym (turns-have sc order t.station) ∙ is_in-from (turns sc order) t.station comes), has.1, omega (arith, has.2))
+    let has = tests_of-has (bidders_in_order sc order) 1 (last_round sc) t h in
+    let comes = (Contains-from_filter _ (round_order sc order) t.station has.0).0 in
+    (is_in-gives (facilities sc) t.station (sym (turns-have sc order t.station) ∙ is_in-from (round_order sc order) t.station comes), has.1, omega (arith, has.2))
 
 -- Every test that the rule asks is among the tests.
 asked_from-has : (sc : Scenario) (book : BookView) (undecided tests : List ClockTest) (st : ClockState) (t : ClockTest) → Contains (asked_from sc book undecided tests st) t → Contains tests t
@@ -75,7 +75,7 @@ record FollowsRule (sc : Scenario) (book : BookView) (U ts : List ClockTest) (st
 -- Whether the steps are the tests left that the rule asks, each settled correctly.
 record IsLeft (sc : Scenario) (book : BookView) (U ts : List ClockTest) (state : CoreState) (steps : List Step) : Type 0 where
   on_air : IsOf sc book state.clock state.map
-  fits : FitsStand sc book state
+  fits : FitsStayClean sc book state
   tests : map test_of steps ≡ asked_from sc book U ts state.clock
   shown : AreShown sc book state steps
   listed : AreListed U steps
@@ -134,11 +134,11 @@ asked_at sc state (x ∷ xs) (suc k) d asked h = asked_at sc (settled sc state (
 -- ---- a backed record
 
 -- The contents of the record of a finished auction.
-pub carried-through : (sc : Scenario) (book : BookView) (rec : Record) → IsBacked sc book rec.order rec → rec.ending ≡ Done → IsCarriedThrough sc book rec.order rec
+pub carried-through : (sc : Scenario) (book : BookView) (rec : Record) → IsBacked sc book rec.order rec → rec.ending ≡ Done → IsCompleted sc book rec.order rec
 carried-through sc book rec backed done = subst (IsEnded sc book rec.order rec) done backed.rest
 
 -- A step's test is among the undecided exactly if the step is undecided.
-record-listed : (sc : Scenario) (book : BookView) (rec : Record) → IsAuction sc book → IsCarriedThrough sc book rec.order rec → AreListed (undecided_of rec.steps) rec.steps
+record-listed : (sc : Scenario) (book : BookView) (rec : Record) → IsAuction sc book → IsCompleted sc book rec.order rec → AreListed (undecided_of rec.steps) rec.steps
 unfolding asked_tests
 record-listed sc book rec a carried =
     listed-shown rec.steps (subst TestsApart (sym carried.tests) (asked-apart sc book (undecided_of rec.steps) (clock_tests sc rec.order) (opening_state sc) (clock_apart sc rec.order a.stations)))
@@ -162,7 +162,7 @@ unfolding clock_rule
 backed-clock sc book rec a backed done = (record-follows sc book rec a backed done).clock
 
 -- Each step of the record is of a station of the scenario, in one of its rounds.
-backed-step : (sc : Scenario) (book : BookView) (rec : Record) (k : ℕ) (d : Step) → IsCarriedThrough sc book rec.order rec → k < length rec.steps →
+backed-step : (sc : Scenario) (book : BookView) (rec : Record) (k : ℕ) (d : Step) → IsCompleted sc book rec.order rec → k < length rec.steps →
     Contains (facilities sc) (get_or rec.steps k d).station × (1 ≤ (get_or rec.steps k d).round) × ((get_or rec.steps k d).round ≤ last_round sc)
 unfolding asked_tests
 backed-step sc book rec k d carried h =

@@ -11,8 +11,8 @@ use Rattle.pack_defs.specs.ResultRows.{Outcome, Start, Exit, Frozen, Undecided, 
 use Rattle.freeze_ledger.specs.Ledger.{price_of}
 use Rattle.auction_core.specs.declared.record.Record.{Record}
 use Rattle.auction_core.specs.Backed.{undecided_of}
-use Rattle.auction_core.specs.declared.clock.Standing.{Standing}
-use Rattle.auction_core.specs.declared.clock.Standing.TheVariants as standing
+use Rattle.auction_core.specs.declared.clock.StationStatus.{StationStatus}
+use Rattle.auction_core.specs.declared.clock.StationStatus.TheVariants as standing
 
 -- The state at the end of the clock rule, with the tests that the record shows undecided left undecided.
 abbrev pub final_state : Record → BookView → ClockState
@@ -43,13 +43,13 @@ unfoldable pub result_text : Scenario → ClockState → List ClockTest → List
 result_text sc state undecided = header_line ++ flat_map row_line (result_rows sc state undecided)
 
 -- Whether the station is frozen by one of these tests.
-abbrev pub frozen_by : List ClockTest → ℕ → Standing → Bool
+abbrev pub frozen_by : List ClockTest → ℕ → StationStatus → Bool
 frozen_by tests f standing.Active = false
 frozen_by tests f (standing.OnAir round) = false
 frozen_by tests f (standing.Frozen round) = is_listed tests (record { round = round; station = f })
 
 -- The same for each of these stations, paired with its standing.
-abbrev pub each_frozen_by : List ClockTest → List ℕ → List Standing → List Bool
+abbrev pub each_frozen_by : List ClockTest → List ℕ → List StationStatus → List Bool
 each_frozen_by tests [] xs = []
 each_frozen_by tests (f ∷ fs) [] = []
 each_frozen_by tests (f ∷ fs) (x ∷ xs) = frozen_by tests f x ∷ each_frozen_by tests fs xs
@@ -60,18 +60,18 @@ price_in paid f = unwrap_or (price_of f paid) 0
 
 -- The line of a station, by its standing, whether it is undecided, and its price if it is frozen; no text if it is
 -- active.
-abbrev pub standing_line : ℕ → Standing → Bool → ℕ → List ℕ
-standing_line f standing.Active u price = []
-standing_line f (standing.OnAir round) u price = row_line (on_air_row (record { station = f; round = round }))
-standing_line f (standing.Frozen round) u price =
+abbrev pub station_line : ℕ → StationStatus → Bool → ℕ → List ℕ
+station_line f standing.Active u price = []
+station_line f (standing.OnAir round) u price = row_line (on_air_row (record { station = f; round = round }))
+station_line f (standing.Frozen round) u price =
     row_line (record { facility = f; outcome = if u then Undecided else Frozen; round = round; price = price })
 
 -- The lines of these stations, each paired with its standing and whether it is undecided; the entries are the prices.
-abbrev pub standing_lines : List (ℕ × ℕ) → List ℕ → List Standing → List Bool → List ℕ
-standing_lines paid [] xs us = []
-standing_lines paid (f ∷ fs) [] us = []
-standing_lines paid (f ∷ fs) (x ∷ xs) [] = []
-standing_lines paid (f ∷ fs) (x ∷ xs) (u ∷ us) = standing_line f x u (price_in paid f) ++ standing_lines paid fs xs us
+abbrev pub station_lines : List (ℕ × ℕ) → List ℕ → List StationStatus → List Bool → List ℕ
+station_lines paid [] xs us = []
+station_lines paid (f ∷ fs) [] us = []
+station_lines paid (f ∷ fs) (x ∷ xs) [] = []
+station_lines paid (f ∷ fs) (x ∷ xs) (u ∷ us) = station_line f x u (price_in paid f) ++ station_lines paid fs xs us
 
 -- A line of the summary.
 unfoldable pub count_line : List ℕ → ℕ → List ℕ

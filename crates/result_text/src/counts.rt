@@ -3,11 +3,11 @@
 ghost use Rattle.std.specs.Prelude.{◌≡◌, ◌≤◌, ◌+◌, ◌++◌, IfOk, OnErr, OnOk, count_by, length, vec_capacity, vec_len};
 ghost use Rattle.pack_defs.specs.Scenario.{IsWithinLimits};
 ghost use Rattle.auction_core.specs.Backed.{IsBacked, undecided_of};
-ghost use Rattle.auction_core.specs.Clock.{stands_frozen, stands_on_air};
+ghost use Rattle.auction_core.specs.Clock.{is_status_frozen, is_status_on_air};
 ghost use Rattle.result_text.specs.ResultText.{count_line, final_state, summary_text};
 
 use crate::replay::final_outcomes;
-use auction_core::clock::Standing;
+use auction_core::clock::StationStatus;
 use auction_core::record::{Ending, Record};
 use itoa::Buffer;
 use pack_defs::book::Book;
@@ -41,22 +41,22 @@ fn extend_reserved(text: &mut Vec<u8>, bytes: &[u8])
 }
 
 // Returns how many of the stations are on air.
-fn on_air_count(standings: &[Standing]) -> usize
-    ensures { result ≡ count_by stands_on_air standings.now }
+fn on_air_count(station_statuses: &[StationStatus]) -> usize
+    ensures { result ≡ count_by is_status_on_air station_statuses.now }
 {
-    standings
+    station_statuses
         .iter()
-        .filter(|standing| matches!(standing, Standing::OnAir { .. }))
+        .filter(|standing| matches!(standing, StationStatus::OnAir { .. }))
         .count()
 }
 
 // Returns how many of the stations are frozen.
-fn frozen_count(standings: &[Standing]) -> usize
-    ensures { result ≡ count_by stands_frozen standings.now }
+fn frozen_count(station_statuses: &[StationStatus]) -> usize
+    ensures { result ≡ count_by is_status_frozen station_statuses.now }
 {
-    standings
+    station_statuses
         .iter()
-        .filter(|standing| matches!(standing, Standing::Frozen { .. }))
+        .filter(|standing| matches!(standing, StationStatus::Frozen { .. }))
         .count()
 }
 
@@ -78,11 +78,11 @@ pub fn summary(alloc: Global, rec: &Record, book: &Book) -> Result<Vec<u8>, NoMe
     ensures { IfOk result (λ v. v.items ≡ summary_text rec.now.scenario (final_state rec.now book.now) (undecided_of rec.now.steps)) }
 {
     let outcomes = final_outcomes(alloc, rec, book)?;
-    let standings = outcomes.clock.standings();
+    let station_statuses = outcomes.clock.station_statuses();
     let mut text = Vec::new(alloc);
-    push_count(&mut text, "stations", standings.len() as u64)?;
-    push_count(&mut text, "on-air", on_air_count(standings) as u64)?;
-    push_count(&mut text, "frozen", frozen_count(standings) as u64)?;
+    push_count(&mut text, "stations", station_statuses.len() as u64)?;
+    push_count(&mut text, "on-air", on_air_count(station_statuses) as u64)?;
+    push_count(&mut text, "frozen", frozen_count(station_statuses) as u64)?;
     push_count(
         &mut text,
         "undecided",

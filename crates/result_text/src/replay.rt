@@ -37,7 +37,7 @@ pub(crate) fn final_outcomes(alloc: Global, rec: &Record, book: &Book) -> Result
     requires limits { IsWithinLimits rec.now.scenario }
     ensures clock { IfOk result (λ o. IsClockOf rec.now.scenario (final_state rec.now book.now) o.clock) }
     ensures undecided { IfOk result
-        (λ o. o.undecided.items ≡ each_frozen_by (undecided_of rec.now.steps) (facilities rec.now.scenario) o.clock.standings) }
+        (λ o. o.undecided.items ≡ each_frozen_by (undecided_of rec.now.steps) (facilities rec.now.scenario) o.clock.station_statuses) }
 {
     book.keeps_order();
     let sc = &rec.scenario;

@@ -4,10 +4,10 @@ ghost use Rattle.std.specs.Prelude.{◌≡◌, ◌++◌, IfOk, IsFalse, OnOk, le
 ghost use Rattle.csv.specs.Writing.{default_writer, needs_quotes};
 ghost use Rattle.pack_defs.specs.Scenario.{IsWithinLimits};
 ghost use Rattle.auction_core.specs.Backed.{IsBacked, undecided_of};
-ghost use Rattle.result_text.specs.ResultText.{IsBetweenRows, final_state, header_line, price_in, result_text, row_fields, standing_line, standing_lines, text_held};
+ghost use Rattle.result_text.specs.ResultText.{IsBetweenRows, final_state, header_line, price_in, result_text, row_fields, station_line, station_lines, text_held};
 
 use crate::replay::final_outcomes;
-use auction_core::clock::{Clock, Standing};
+use auction_core::clock::{Clock, StationStatus};
 use auction_core::record::{Ending, Record};
 use csv::{Writer, WriterBuilder};
 use itoa::Buffer;
@@ -53,26 +53,26 @@ fn price_in(clock: &Clock, facility: u32) -> u64
 
 // Writes the row of a station, by its standing, whether it is undecided, and its price in cents if it is frozen. An
 // active station has no row. The writer is between two rows.
-fn write_standing(
+fn write_station_row(
     writer: &mut Writer<Vec<u8>>,
     facility: u32,
-    standing: Standing,
+    standing: StationStatus,
     undecided: bool,
     price: u64,
 ) -> Result<(), NoMemory>
     requires { IsBetweenRows writer.old }
     ensures idle { OnOk result (IsBetweenRows writer.new) }
     ensures text { OnOk result
-        (text_held writer.new ≡ text_held writer.old ++ standing_line facility standing undecided price) }
+        (text_held writer.new ≡ text_held writer.old ++ station_line facility standing undecided price) }
 {
     match standing {
-        Standing::Active => Ok(()),
-        Standing::OnAir { round: 0 } => write_row(writer, facility, "start", 0, 0),
-        Standing::OnAir { round } => write_row(writer, facility, "exit", round, 0),
-        Standing::Frozen { round } if undecided => {
+        StationStatus::Active => Ok(()),
+        StationStatus::OnAir { round: 0 } => write_row(writer, facility, "start", 0, 0),
+        StationStatus::OnAir { round } => write_row(writer, facility, "exit", round, 0),
+        StationStatus::Frozen { round } if undecided => {
             write_row(writer, facility, "undecided", round, price)
         }
-        Standing::Frozen { round } => write_row(writer, facility, "frozen", round, price),
+        StationStatus::Frozen { round } => write_row(writer, facility, "frozen", round, price),
     }
 }
 
@@ -90,26 +90,26 @@ fn write_header(writer: &mut Writer<Vec<u8>>) -> Result<(), NoMemory>
 }
 
 // Returns a header, and a row for each of these stations, by the clock and the undecided tests.
-fn standings_csv(
+fn stations_csv(
     alloc: Global,
     stations: &[Station],
     clock: &Clock,
     undecided: &[bool],
 ) -> Result<Vec<u8>, NoMemory>
-    requires standings { length clock.now.standings ≡ length stations.now }
+    requires station_statuses { length clock.now.station_statuses ≡ length stations.now }
     requires undecided { length undecided.now ≡ length stations.now }
     ensures { IfOk result (λ v. v.items ≡
-        header_line ++ standing_lines clock.now.paid (map (λ x. x.id) stations.now) clock.now.standings undecided.now) }
+        header_line ++ station_lines clock.now.paid (map (λ x. x.id) stations.now) clock.now.station_statuses undecided.now) }
 {
     let mut writer = WriterBuilder::new().from_writer(Vec::new(alloc));
     write_header(&mut writer)?;
     'rows: for i in 0..stations.len() {
         let facility = stations[i].id;
         let price = price_in(clock, facility);
-        write_standing(
+        write_station_row(
             &mut writer,
             facility,
-            clock.standings()[i],
+            clock.station_statuses()[i],
             undecided[i],
             price,
         )?;
@@ -133,7 +133,7 @@ pub fn result_csv(alloc: Global, rec: &Record, book: &Book) -> Result<Vec<u8>, N
     ensures { IfOk result (λ v. v.items ≡ result_text rec.now.scenario (final_state rec.now book.now) (undecided_of rec.now.steps)) }
 {
     let outcomes = final_outcomes(alloc, rec, book)?;
-    standings_csv(
+    stations_csv(
         alloc,
         rec.scenario.stations.as_slice(),
         &outcomes.clock,

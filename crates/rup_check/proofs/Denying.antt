@@ -96,8 +96,8 @@ used-stated known lits l m e o h = sym (used-either known lits l e) ∙ or_right
 pub unused : (known lits : List Lit) (l m : Lit) → known ≡ map opposite lits → m ≡ opposite l → has_lit known l ≡ false → has_lit known m ≡ false → is_used lits l.var ≡ false
 unused known lits l m e o h k = sym (used-either known lits l e) ∙ or_from (has_lit known l) (has_lit known (opposite l)) h (ap (has_lit known) (sym o) ∙ k)
 
-pub out-nought : (vars : ℕ) (l : Lit) → l.var ≡ 0 → is_out vars l ≡ true
-out-nought vars l e = or_left (l.var == 0) (nat_lt vars l.var) (eq-eqb l.var 0 e)
+pub out-zero : (vars : ℕ) (l : Lit) → l.var ≡ 0 → is_out vars l ≡ true
+out-zero vars l e = or_left (l.var == 0) (nat_lt vars l.var) (eq-eqb l.var 0 e)
 
 pub out-above : (vars : ℕ) (l : Lit) → vars < l.var → is_out vars l ≡ true
 out-above vars l h = or_right (l.var == 0) (nat_lt vars l.var) (lt-ltb vars l.var h)

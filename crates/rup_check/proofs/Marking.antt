@@ -1,4 +1,4 @@
--- For `known`: the marks, and what they record after a literal's is cleared.
+-- For `known_literals`: the marks, and what they record after a literal's is cleared.
 use Rattle.std.proofs.Common.{◌≡◌, ℕ, ◌*◌, ◌<◌, Bool, true, false, not, ◌&&◌, ◌||◌, ◌==◌, if◌then◌else◌, nat_le, List, [], ◌∷◌, ◌++◌, length, refl, sym, ap, ◌∙◌, subst, arith, get_or}
 use Rattle.std.proofs.Math.Bool.{beq}
 use Rattle.std.specs.Prelude.{slice_set}
@@ -8,7 +8,7 @@ use Rattle.clause_db.specs.declared.lit.Lit.{Lit}
 use Rattle.clause_db.specs.Clause.{same_lit, has_lit, code_of}
 use Rattle.clause_db.specs.Clauses.{LitWithin}
 use Rattle.clause_db.proofs.Literals.{lit_cases, same_lit-apart, has-push_new, has-push_other, code-is, code-below}
-use Rattle.rup_check.specs.Known.{is_lit_within, Marks}
+use Rattle.rup_check.specs.KnownLiterals.{is_lit_within, Marks}
 use Rattle.pack_defs.proofs.Words.{eq_swap}
 
 -- each marked literal is in the list

@@ -4,7 +4,7 @@ use Rattle.std.proofs.Math.Nat.{mod-eq_of_lt}
 use Rattle.std.proofs.lemmas.Bool.{le-ltb, lt-ltb}
 use Rattle.std.proofs.lemmas.Nat.{div-add-mod', mul-le}
 use Rattle.rup_check.specs.declared.digits.Digits.{Digits}
-use Rattle.rup_check.specs.Packed.{Spells, digits_with, no_digits, numbers_from, numbers_of, part_with}
+use Rattle.rup_check.specs.Packed.{Spells, digits_with, no_digits, numbers_from, numbers_of, with_digit}
 
 -- one piece and then another
 pub spells-both : (a b xs ys : List ℕ) → Spells a xs → Spells b ys → Spells (a ++ b) (xs ++ ys)
@@ -15,11 +15,11 @@ spells-both a b xs ys f g behind =
 pub spells-alone : (a xs : List ℕ) → Spells a xs → numbers_of a ≡ xs
 spells-alone a xs f = ap numbers_of (sym (append-nil a)) ∙ f [] ∙ append-nil xs
 
-pub last-digit : (d : Digits) (b : ℕ) (bs : List ℕ) → nat_lt b 128 ≡ true → numbers_from d (b ∷ bs) ≡ part_with d b ∷ numbers_from no_digits bs
-last-digit d b bs e = ap (λ (t : Bool). if t then part_with d b ∷ numbers_from no_digits bs else numbers_from (digits_with d (b - 128)) bs) e
+pub last-digit : (d : Digits) (b : ℕ) (bs : List ℕ) → nat_lt b 128 ≡ true → numbers_from d (b ∷ bs) ≡ with_digit d b ∷ numbers_from no_digits bs
+last-digit d b bs e = ap (λ (t : Bool). if t then with_digit d b ∷ numbers_from no_digits bs else numbers_from (digits_with d (b - 128)) bs) e
 
 pub more-digit : (d : Digits) (b : ℕ) (bs : List ℕ) → nat_lt b 128 ≡ false → numbers_from d (b ∷ bs) ≡ numbers_from (digits_with d (b - 128)) bs
-more-digit d b bs e = ap (λ (t : Bool). if t then part_with d b ∷ numbers_from no_digits bs else numbers_from (digits_with d (b - 128)) bs) e
+more-digit d b bs e = ap (λ (t : Bool). if t then with_digit d b ∷ numbers_from no_digits bs else numbers_from (digits_with d (b - 128)) bs) e
 
 -- a number that is partly written, with this rest
 pub record Begun (old now : List ℕ) (rest number : ℕ) : Type 0 where
@@ -77,7 +77,7 @@ begun-more old now rest number small many b =
       bytes = ap (λ (z : List ℕ). z ++ byte ∷ []) b.bytes ∙ append_assoc old b.more (byte ∷ []);
       reads = λ behind. ap numbers_of (append_assoc b.more (byte ∷ []) behind) ∙ b.reads (byte ∷ behind) ∙ more-digit d byte behind (is_digit rest);
       adds =
-          ap (λ z. part_with d z + (rest / 128) * ((d.weight * 128) % 2 ^ 64)) digit
+          ap (λ z. with_digit d z + (rest / 128) * ((d.weight * 128) % 2 ^ 64)) digit
           ∙ ap (λ z. z + (rest / 128) * ((d.weight * 128) % 2 ^ 64)) (part_is d.part rest d.weight (rest % 128) number b.adds small less)
           ∙ ap (λ z. d.part + (rest % 128) * d.weight + (rest / 128) * z) weight
           ∙ sum_is d.part rest d.weight
@@ -88,7 +88,7 @@ begun-more old now rest number small many b =
 pub begun-last : (old now : List ℕ) (rest number : ℕ) → number < 2 ^ 64 → rest < 128 → Begun old now rest number → (more : List ℕ) × (now ++ rest ∷ [] ≡ old ++ more) × Spells more (number ∷ [])
 begun-last old now rest number small few b =
     let d = b.digits in
-    let whole : part_with d rest ≡ number = part_is d.part rest d.weight rest number b.adds small (omega arith) ∙ b.adds in (
+    let whole : with_digit d rest ≡ number = part_is d.part rest d.weight rest number b.adds small (omega arith) ∙ b.adds in (
       b.more ++ rest ∷ [],
       ap (λ (z : List ℕ). z ++ rest ∷ []) b.bytes ∙ append_assoc old b.more (rest ∷ []),
       λ behind. ap numbers_of (append_assoc b.more (rest ∷ []) behind) ∙ b.reads (rest ∷ behind) ∙ last-digit d rest behind (lt-ltb rest 128 few) ∙ ap (λ z. z ∷ numbers_of behind) whole,
@@ -107,6 +107,6 @@ pub numbers-few : (d : Digits) (bytes : List ℕ) → length (numbers_from d byt
 numbers-few d [] = omega arith
 numbers-few d (b ∷ bs) = step (nat_lt b 128) (numbers-few no_digits bs) (numbers-few (digits_with d (b - 128)) bs)
   where
-    step : (t : Bool) → length (numbers_from no_digits bs) ≤ length bs → length (numbers_from (digits_with d (b - 128)) bs) ≤ length bs → length (if t then part_with d b ∷ numbers_from no_digits bs else numbers_from (digits_with d (b - 128)) bs) ≤ length (b ∷ bs)
+    step : (t : Bool) → length (numbers_from no_digits bs) ≤ length bs → length (numbers_from (digits_with d (b - 128)) bs) ≤ length bs → length (if t then with_digit d b ∷ numbers_from no_digits bs else numbers_from (digits_with d (b - 128)) bs) ≤ length (b ∷ bs)
     step true h k = omega (arith, h)
     step false h k = omega (arith, k)

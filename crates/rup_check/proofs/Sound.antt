@@ -11,7 +11,7 @@ use Rattle.rup_check.specs.declared.error.LineErr.{LineErr}
 use Rattle.rup_check.specs.declared.error.LineErr.TheVariants.{BadLits, NotFalsified}
 use Rattle.rup_check.specs.declared.error.LogErr.{LogErr}
 use Rattle.clause_db.specs.Forced.{not_false, only_open, forced_by}
-use Rattle.rup_check.specs.Follows.{has_bad_lits, end_fault, with_forced, after_hint, fault_or, hints_fault, line_or, line_fault, lines_fault, ends_empty}
+use Rattle.rup_check.specs.Follows.{has_bad_lits, last_hint_fault, with_forced, after_hint, fault_or, hints_fault, line_or, line_fault, lines_fault, ends_empty}
 
 -- every known literal is true
 abbrev Holds : (ℕ → Bool) → List Lit → Type 0
@@ -106,7 +106,7 @@ none_if : (b : Bool) (why : LineErr) → (if b then None else Some why) ≡ None
 none_if true why e = refl
 none_if false why e = cc
 
-end-sound : (model : ℕ → Bool) (known : List Lit) (place : ℕ) (o : Option (List Lit)) → Holds model known → ((c : List Lit) → o ≡ Some c → clause_holds model c ≡ true) → end_fault known place o ≡ None → ⊥
+end-sound : (model : ℕ → Bool) (known : List Lit) (place : ℕ) (o : Option (List Lit)) → Holds model known → ((c : List Lit) → o ≡ Some c → clause_holds model c ≡ true) → last_hint_fault known place o ≡ None → ⊥
 end-sound model known place None k f e = cc
 end-sound model known place (Some c) k f e =
     let yes : clause_holds model c ≡ true = f c refl in

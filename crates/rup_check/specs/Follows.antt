@@ -22,9 +22,9 @@ abbrev pub has_bad_lits : ℕ → List Lit → Bool
 has_bad_lits vars lits = list_any (λ l. l.var == 0 || nat_lt vars l.var) lits || has_repeat (map (λ l. l.var) lits)
 
 -- The fault of the last hint, which names this clause: under the known literals it must be false.
-abbrev pub end_fault : List Lit → ℕ → Option (List Lit) → Option LineErr
-end_fault known place None = Some (NoSuchClause place)
-end_fault known place (Some clause) = if is_false_clause known clause then None else Some NotFalsified
+abbrev pub last_hint_fault : List Lit → ℕ → Option (List Lit) → Option LineErr
+last_hint_fault known place None = Some (NoSuchClause place)
+last_hint_fault known place (Some clause) = if is_false_clause known clause then None else Some NotFalsified
 
 -- What is known once the forced literal is true too. If there is none, the hint at this place is invalid.
 abbrev pub with_forced : List Lit → ℕ → Option Lit → Result (List Lit) LineErr
@@ -45,7 +45,7 @@ fault_or (Ok known) rest = rest known
 -- must force a literal, which is known from then on. The last must name a false clause.
 abbrev pub hints_fault : List (List Lit) → List Lit → ℕ → List ℕ → Option LineErr
 hints_fault clauses known place [] = Some NotFalsified
-hints_fault clauses known place (h ∷ []) = end_fault known place (clause_at clauses h)
+hints_fault clauses known place (h ∷ []) = last_hint_fault known place (clause_at clauses h)
 hints_fault clauses known place (h ∷ next ∷ hints) =
     fault_or (after_hint known place (clause_at clauses h)) (λ more. hints_fault clauses more (place + 1) (next ∷ hints))
 
@@ -60,8 +60,8 @@ abbrev pub clauses_before : List (List Lit) → List Line → List (List Lit)
 clauses_before clauses lines = clauses ++ map (λ line. line.lits) lines
 
 -- The clause of this number, if there is one. Numbers start at 1 and count the clauses, then the first `before` lines.
-abbrev pub clause_numbered : List (List Lit) → List Line → ℕ → ℕ → Option (List Lit)
-clause_numbered clauses lines before n = clause_at (clauses_before clauses (take before lines)) n
+abbrev pub clause_by_number : List (List Lit) → List Line → ℕ → ℕ → Option (List Lit)
+clause_by_number clauses lines before n = clause_at (clauses_before clauses (take before lines)) n
 
 -- The fault of the line at this place, or else that of the rest.
 abbrev pub line_or : ℕ → Option LineErr → Option LogErr → Option LogErr

@@ -1,4 +1,4 @@
 pub mod Answers
 pub mod Follows
-pub mod Known
+pub mod KnownLiterals
 pub mod Packed

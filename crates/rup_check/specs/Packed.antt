@@ -11,23 +11,23 @@ abbrev pub no_digits : Digits
 no_digits = record { part = 0; weight = 1 }
 
 -- The value of a number after one more digit.
-abbrev pub part_with : Digits → ℕ → ℕ
-part_with d digit = (d.part + (digit * d.weight) % 2 ^ 64) % 2 ^ 64
+abbrev pub with_digit : Digits → ℕ → ℕ
+with_digit d digit = (d.part + (digit * d.weight) % 2 ^ 64) % 2 ^ 64
 
 -- The state after one more digit that is not the last.
 abbrev pub digits_with : Digits → ℕ → Digits
-digits_with d digit = record { part = part_with d digit; weight = (d.weight * 128) % 2 ^ 64 }
+digits_with d digit = record { part = with_digit d digit; weight = (d.weight * 128) % 2 ^ 64 }
 
 -- What one more byte leads to: the number if the byte is its last, or else the next state.
 abbrev pub TakesByte : Digits → Digits → ℕ → Option ℕ → Type 0
 TakesByte old new b None = (nat_lt b 128 ≡ false) × (new ≡ digits_with old (b - 128))
-TakesByte old new b (Some n) = (nat_lt b 128 ≡ true) × (n ≡ part_with old b)
+TakesByte old new b (Some n) = (nat_lt b 128 ≡ true) × (n ≡ with_digit old b)
 
 -- The numbers that the bytes encode, if the first is partly read.
 abbrev pub numbers_from : Digits → List ℕ → List ℕ
 numbers_from d [] = []
 numbers_from d (b ∷ bs) =
-    if nat_lt b 128 then part_with d b ∷ numbers_from no_digits bs else numbers_from (digits_with d (b - 128)) bs
+    if nat_lt b 128 then with_digit d b ∷ numbers_from no_digits bs else numbers_from (digits_with d (b - 128)) bs
 
 -- The numbers that the bytes encode.
 abbrev pub numbers_of : List ℕ → List ℕ

@@ -8,7 +8,7 @@ ghost use Rattle.rup_check.specs.Packed.{line_at};
 use crate::cursors::Literals;
 use crate::error::{LineErr, LogErr};
 use crate::hints::{check_hints, deny};
-use crate::known::Known;
+use crate::known_literals::KnownLiterals;
 use crate::line::{Line, Log};
 use crate::lines::Lines;
 use clause_db::list::ClauseList;
@@ -22,7 +22,7 @@ use std::alloc::Global;
 pub fn check_line(alloc: Global, clauses: &ClauseList, line: &Line) -> Result<(), LineErr>
     ensures { LineAnswer (line_fault clauses.now.vars clauses.now.list line.now) result }
 {
-    let mut known = Known::new(alloc, clauses.vars())?;
+    let mut known = KnownLiterals::new(alloc, clauses.vars())?;
     if !deny(&mut known, Literals::of_clause(line.lits.as_slice()))? {
         return Err(LineErr::BadLits);
     }
@@ -43,7 +43,7 @@ pub fn check_line(alloc: Global, clauses: &ClauseList, line: &Line) -> Result<()
 pub fn check_log(alloc: Global, clauses: &ClauseList, log: &Log) -> Result<(), LogErr>
     ensures { LogAnswer (log_fault clauses.now.vars clauses.now.list log.now.lines) result }
 {
-    let mut known = Known::new(alloc, clauses.vars())?;
+    let mut known = KnownLiterals::new(alloc, clauses.vars())?;
     let lines = &log.lines;
     for i in 0..lines.len() {
         if let Err(why) = check_at(&mut known, clauses, lines, i) {
@@ -62,7 +62,7 @@ pub fn check_log(alloc: Global, clauses: &ClauseList, log: &Log) -> Result<(), L
 
 // Checks whether the line at a place, from 0, follows from the clauses and the lines before it. Nothing may be known before.
 fn check_at(
-    known: &mut Known,
+    known: &mut KnownLiterals,
     clauses: &ClauseList,
     lines: &Lines,
     place: usize,

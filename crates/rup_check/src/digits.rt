@@ -1,7 +1,7 @@
 //! Numbers in bytes: seven bits a byte, the least first, and 128 added to each byte except a number's last (LEB128).
 
 ghost use Rattle.std.specs.Prelude.{◌≡◌, ◌++◌, ◌∷◌, [], List, ℕ, MatchOption, OnOk};
-ghost use Rattle.rup_check.specs.Packed.{Spells, TakesByte, no_digits, numbers_of, part_with};
+ghost use Rattle.rup_check.specs.Packed.{Spells, TakesByte, no_digits, numbers_of, with_digit};
 
 use std::alloc::AllocError as NoMemory;
 
@@ -26,16 +26,16 @@ impl Digits {
     {
         let byte = byte as u64;
         if byte < 128 {
-            return Some(self.part_with(byte));
+            return Some(self.with_digit(byte));
         }
-        self.part = self.part_with(byte - 128);
+        self.part = self.with_digit(byte - 128);
         self.weight = self.weight.wrapping_mul(128);
         None
     }
 
     // Returns the value with one more digit.
-    fn part_with(&self, digit: u64) -> u64
-        ensures { result ≡ part_with self.now digit }
+    fn with_digit(&self, digit: u64) -> u64
+        ensures { result ≡ with_digit self.now digit }
     {
         self.part.wrapping_add(digit.wrapping_mul(self.weight))
     }

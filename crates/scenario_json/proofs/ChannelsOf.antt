@@ -12,14 +12,14 @@ use Rattle.pack_defs.specs.Scenario.{facilities}
 use Rattle.pack_defs.specs.declared.domain.Domain.{Domain}
 use Rattle.pack_defs.specs.declared.pair.Pair.{Pair}
 use Rattle.pack_defs.specs.declared.scenario.Scenario.{Scenario}
-use Rattle.constraint_files.specs.Domains.{add_domain_row, channels_of, channels_to_keep, domain_naming, domain_row, domains_of, kept_channels, put_domain, with_domain}
-use Rattle.constraint_files.specs.Numbers.{is_channel, number, numbers}
+use Rattle.constraint_files.specs.Domains.{add_domain_row, channels_of, channels_to_keep, domain_with_channels, domain_row, domains_of, kept_channels, put_domain, with_domain}
+use Rattle.constraint_files.specs.Field.{is_channel, number, numbers}
 use Rattle.constraint_files.specs.Records.{lines_of}
 use Rattle.pack_defs.specs.Steps.{◌>>=◌}
 use Rattle.constraint_files.specs.declared.error.RowWhy.{RowWhy}
 use Rattle.constraint_files.specs.declared.error.RowWhy.TheVariants.{BadKey, BadNumber, ChannelRange, SecondDomain, TooMany}
 use Rattle.constraint_files.proofs.OrderLemmas.{lines-keep}
-use Rattle.scenario_json.specs.Joined.{book_unless, first_missing, joined}
+use Rattle.scenario_json.specs.Join.{book_unless, first_missing, joined}
 
 -- each channel of the domain is one that a domain may have
 abbrev IsKept : Domain → Type 0
@@ -32,7 +32,7 @@ to-keep c (k, l, e) =
     let is = get_or-range_with_len 14 38 k c below in
     (omega (arith, is, e, below), omega (arith, is, e, below))
 
-naming-kept : (s : ℕ) (named : List ℕ) (d : Domain) → domain_naming s named ≡ Ok d → IsKept d
+naming-kept : (s : ℕ) (named : List ℕ) (d : Domain) → domain_with_channels s named ≡ Ok d → IsKept d
 naming-kept s named d e = go (list_all is_channel named) e
   where
     own : IsKept (record { station = s; channels = kept_channels named })
@@ -50,15 +50,15 @@ row-kept [] d e = cc
 row-kept (key ∷ []) d e = cc
 row-kept (key ∷ facility ∷ channels) d e = by_key (bytes_eq key (codes "DOMAIN")) e
   where
-    by_numbers : (s : ℕ) (o : Option (List ℕ)) → (ok_or o BadNumber >>= domain_naming s) ≡ Ok d → IsKept d
+    by_numbers : (s : ℕ) (o : Option (List ℕ)) → (ok_or o BadNumber >>= domain_with_channels s) ≡ Ok d → IsKept d
     by_numbers s None h = cc
     by_numbers s (Some named) h = naming-kept s named d h
 
-    by_station : (o : Option ℕ) → (ok_or o BadNumber >>= (λ s. ok_or (numbers channels) BadNumber >>= domain_naming s)) ≡ Ok d → IsKept d
+    by_station : (o : Option ℕ) → (ok_or o BadNumber >>= (λ s. ok_or (numbers channels) BadNumber >>= domain_with_channels s)) ≡ Ok d → IsKept d
     by_station None h = cc
     by_station (Some s) h = by_numbers s (numbers channels) h
 
-    by_key : (b : Bool) → cond b (ok_or (number facility) BadNumber >>= (λ s. ok_or (numbers channels) BadNumber >>= domain_naming s)) (Err BadKey) ≡ Ok d → IsKept d
+    by_key : (b : Bool) → cond b (ok_or (number facility) BadNumber >>= (λ s. ok_or (numbers channels) BadNumber >>= domain_with_channels s)) (Err BadKey) ≡ Ok d → IsKept d
     by_key true h = by_station (number facility) h
     by_key false h = cc
 

@@ -23,7 +23,7 @@ use Rattle.pack_defs.specs.declared.station.Station.{Station}
 use Rattle.pack_defs.specs.declared.worker.Worker.{Worker}
 use Rattle.pack_defs.proofs.ComponentLaws.{filter_no_longer}
 use Rattle.scenario_json.proofs.StationsAscend.{ids, increasing-from_ascending}
-use Rattle.scenario_json.specs.Joined.{book_unless, first_missing, joined}
+use Rattle.scenario_json.specs.Join.{book_unless, first_missing, joined}
 use Rattle.scenario_json.specs.StartOnly.{declines_opening, start_only}
 
 -- ---- one station

@@ -31,7 +31,7 @@ use Rattle.scenario_json.specs.Members.{list, array_items, member_number, object
 use Rattle.pack_defs.specs.Steps.{◌>>=◌}
 use Rattle.scenario_json.specs.Steps.{each_from}
 use Rattle.scenario_json.specs.ScenarioOf.{decrement_in, decrements_in, fall_in, has_id, json_in, kind_in, listed_in, new_id, placed, rated_in, scenario_in, scenario_of, seed_in, station_in, stations_from, stations_in, value_from, member_value, with_prover, worker_in, workers_in}
-use Rattle.scenario_json.specs.Written.{IsFileNumber, data_for, kind_text, last_members, list_for, members_for, station_for, value_for, whole_for, worker_for}
+use Rattle.scenario_json.specs.Write.{IsFileNumber, data_for, kind_text, last_members, list_for, members_for, station_for, value_for, whole_for, worker_for}
 use Rattle.scenario_json.proofs.Limits.{IsDecrement}
 use Rattle.scenario_json.proofs.StationsAscend.{ids}
 
@@ -285,7 +285,7 @@ all-workers-read d ws found some few limits proves =
 
 -- the value is an object that has all of the scenario except how the price falls
 record Tells (sc : Scenario) (d : Data) : Type 0 where
-  pub whole : is_some (as_object d) ≡ true
+  pub whole_number : is_some (as_object d) ≡ true
   pub version_is : get (name_text names.Version) d ≡ Some (whole_for sc.version)
   pub top_is : get (name_text names.Top) d ≡ Some (whole_for sc.top)
   pub opening_is : get (name_text names.Opening) d ≡ Some (whole_for sc.opening)
@@ -294,8 +294,8 @@ record Tells (sc : Scenario) (d : Data) : Type 0 where
 
 members-tell : (f : Fall) (sc : Scenario) → Tells sc (object (members_for f sc))
 unfolding members_for last_members name_text
-members-tell (Listed ds) sc = record { whole = refl; version_is = refl; top_is = refl; opening_is = refl; stations_are = refl; workers_are = refl }
-members-tell (Rated rate floor) sc = record { whole = refl; version_is = refl; top_is = refl; opening_is = refl; stations_are = refl; workers_are = refl }
+members-tell (Listed ds) sc = record { whole_number = refl; version_is = refl; top_is = refl; opening_is = refl; stations_are = refl; workers_are = refl }
+members-tell (Rated rate floor) sc = record { whole_number = refl; version_is = refl; top_is = refl; opening_is = refl; stations_are = refl; workers_are = refl }
 
 decrements-stand : (ds : List ℕ) (sc : Scenario) → get (name_text names.Decrements) (object (members_for (Listed ds) sc)) ≡ Some (list_for whole_for ds)
 unfolding members_for last_members name_text
@@ -310,10 +310,10 @@ unfolding members_for last_members name_text
 floor-stands rate floor sc = refl
 
 fall-reads : (f : Fall) (sc : Scenario) (version opening : ℕ) → version ≡ version_of f → IsFallWithinLimits opening f → fall_in version opening (object (members_for f sc)) ≡ Ok f
-fall-reads (Listed ds) sc version opening told limits =
-    rw told (listed-reads opening (object (members_for (Listed ds) sc)) ds (decrements-stand ds sc) limits)
-fall-reads (Rated rate floor) sc version opening told limits =
-    rw told (rated-reads (object (members_for (Rated rate floor) sc)) rate floor (rate-stands rate floor sc) (floor-stands rate floor sc) limits)
+fall-reads (Listed ds) sc version opening pairs_view limits =
+    rw pairs_view (listed-reads opening (object (members_for (Listed ds) sc)) ds (decrements-stand ds sc) limits)
+fall-reads (Rated rate floor) sc version opening pairs_view limits =
+    rw pairs_view (rated-reads (object (members_for (Rated rate floor) sc)) rate floor (rate-stands rate floor sc) (floor-stands rate floor sc) limits)
 
 -- the scenario is made of what is read
 made : (sc : Scenario) (owners : Option (List OwnerLine)) → sc.owners ≡ owners
@@ -327,8 +327,8 @@ members-read : (d : Data) (version top opening : ℕ) (fall : Fall) (stations : 
     → record { version = version; top = top; opening = opening; fall = fall; stations = stations; workers = workers; owners = None } ≡ sc
     → scenario_in d ≡ Ok sc
 unfolding scenario_in
-members-read d version top opening fall stations workers sc whole e f g h k l is =
-    then-reads (object_in names.Scenario 0 d) d _ _ whole
+members-read d version top opening fall stations workers sc whole_number e f g h k l is =
+    then-reads (object_in names.Scenario 0 d) d _ _ whole_number
     (then-reads (member_number names.Version 0 1 2 d) version _ _ e
     (then-reads (member_number names.Top 0 14 51 d) top _ _ f
     (then-reads (member_number names.Opening 0 1 1000000 d) opening _ _ g
@@ -345,7 +345,7 @@ data-reads sc limits numbers by_value =
     let low : 1 ≤ sc.version = versions-from sc.fall sc.version limits.version in
     let high : sc.version ≤ 2 = versions-to sc.fall sc.version limits.version in
     members-read d sc.version sc.top sc.opening sc.fall sc.stations sc.workers sc
-    (object-reads names.Scenario 0 d tells.whole)
+    (object-reads names.Scenario 0 d tells.whole_number)
     (number-reads names.Version 0 1 2 d sc.version tells.version_is low high)
     (number-reads names.Top 0 14 51 d sc.top tells.top_is limits.least_top limits.top)
     (number-reads names.Opening 0 1 1000000 d sc.opening tells.opening_is limits.some_opening limits.opening)

@@ -30,42 +30,42 @@ use Rattle.pack_defs.specs.declared.worker.Kind.TheVariants.{Cdcl, Walk}
 use Rattle.pack_defs.specs.declared.worker.Worker.{Worker}
 use Rattle.pack_defs.specs.Scenario.{IsFallWithinLimits, IsStationWithinLimits, IsWithinLimits, IsWorkerWithinLimits, most_budget, version_of}
 use Rattle.scenario_json.specs.ScenarioOf.{scenario_of}
-use Rattle.scenario_json.specs.Written.{IsFileNumber, IsFileSeed, IsOfAFile, data_for, kind_text, last_members, list_for, members_for, station_for, value_for, whole_for, worker_for}
+use Rattle.scenario_json.specs.Write.{IsFileNumber, IsFileSeed, IsWritableScenario, data_for, kind_text, last_members, list_for, members_for, station_for, value_for, whole_for, worker_for}
 use Rattle.scenario_json.proofs.Readings.{json-is}
 use Rattle.scenario_json.proofs.Limits.{IsDecrement}
 use Rattle.scenario_json.proofs.WrittenLemmas.{data-shallow, text-reads}
 
 -- ---- a value whose numbers are below 2^64 and whose texts are UTF-8
 
-abbrev IsToldNumber : Num → Type 0
-IsToldNumber (unsigned n) = n < 2 ^ 64
-IsToldNumber (negative z) = ⊥
-IsToldNumber (float x) = ⊥
+abbrev IsReportedNumber : Num → Type 0
+IsReportedNumber (unsigned n) = n < 2 ^ 64
+IsReportedNumber (negative z) = ⊥
+IsReportedNumber (float x) = ⊥
 
 abbrev mutual
-  IsTold : Data → Type 0
-  IsTold null = ⊤
-  IsTold (boolean b) = ⊤
-  IsTold (number n) = IsToldNumber n
-  IsTold (string s) = IsUtf8 s
-  IsTold (array ds) = AreTold ds
-  IsTold (object ms) = HasTold ms
+  IsReported : Data → Type 0
+  IsReported null = ⊤
+  IsReported (boolean b) = ⊤
+  IsReported (number n) = IsReportedNumber n
+  IsReported (string s) = IsUtf8 s
+  IsReported (array ds) = AreReported ds
+  IsReported (object ms) = HasTold ms
 
-  AreTold : Items → Type 0
-  AreTold no_items = ⊤
-  AreTold (item d ds) = IsTold d × AreTold ds
+  AreReported : Items → Type 0
+  AreReported no_items = ⊤
+  AreReported (item d ds) = IsReported d × AreReported ds
 
   HasTold : Members → Type 0
   HasTold no_members = ⊤
-  HasTold (member k d ms) = IsUtf8 k × IsTold d × HasTold ms
+  HasTold (member k d ms) = IsUtf8 k × IsReported d × HasTold ms
 
-is-number : (n : Num) → IsToldNumber n → IsNumber (number_text n)
+is-number : (n : Num) → IsReportedNumber n → IsNumber (number_text n)
 is-number (unsigned n) h = IsNumber-decimal n h
 is-number (negative z) h = absurd h
 is-number (float x) h = absurd h
 
 mutual
-  has-numbers : (d : Data) → IsTold d → tree.HasNumbers (outline d)
+  has-numbers : (d : Data) → IsReported d → tree.HasNumbers (outline d)
   has-numbers null h = tt
   has-numbers (boolean b) h = tt
   has-numbers (number n) h = is-number n h
@@ -73,7 +73,7 @@ mutual
   has-numbers (array ds) h = items-numbers ds h
   has-numbers (object ms) h = members-numbers ms h
 
-  items-numbers : (ds : Items) → AreTold ds → tree.ItemsHaveNumbers (items_outline ds)
+  items-numbers : (ds : Items) → AreReported ds → tree.ItemsHaveNumbers (items_outline ds)
   items-numbers no_items h = tt
   items-numbers (item d ds) h = (has-numbers d h.0, items-numbers ds h.1)
 
@@ -98,7 +98,7 @@ mutual
   members_depth-outline no_members = refl
   members_depth-outline (member k d ms) = ap₂ max (depth-outline d) (members_depth-outline ms)
 
-number-utf8 : (n : Num) → IsToldNumber n → IsUtf8 (number_text n)
+number-utf8 : (n : Num) → IsReportedNumber n → IsUtf8 (number_text n)
 number-utf8 (unsigned n) h = IsUtf8-from_ascii (decimal n) (IsAscii-decimal n h)
 number-utf8 (negative z) h = absurd h
 number-utf8 (float x) h = absurd h
@@ -108,7 +108,7 @@ comma-utf8 true = IsUtf8-are_ascii (44 ∷ []) refl
 comma-utf8 false = IsUtf8-are_ascii [] refl
 
 mutual
-  text-utf8 : (d : Data) → IsTold d → IsUtf8 (compact_text d)
+  text-utf8 : (d : Data) → IsReported d → IsUtf8 (compact_text d)
   text-utf8 null h = IsUtf8-are_ascii (codes "null") refl
   text-utf8 (boolean b) h = IsUtf8-boolean b
   text-utf8 (number n) h = number-utf8 n h
@@ -116,7 +116,7 @@ mutual
   text-utf8 (array ds) h = IsUtf8-append (91 ∷ []) (items_text false ds) (IsUtf8-are_ascii (91 ∷ []) refl) (items-utf8 false ds h)
   text-utf8 (object ms) h = IsUtf8-append (123 ∷ []) (members_text false ms) (IsUtf8-are_ascii (123 ∷ []) refl) (members-utf8 false ms h)
 
-  items-utf8 : (later : Bool) (ds : Items) → AreTold ds → IsUtf8 (items_text later ds)
+  items-utf8 : (later : Bool) (ds : Items) → AreReported ds → IsUtf8 (items_text later ds)
   items-utf8 later no_items h = IsUtf8-are_ascii (93 ∷ []) refl
   items-utf8 later (item d ds) h =
       IsUtf8-append (comma_if later) (compact_text d ++ items_text true ds) (comma-utf8 later)
@@ -135,10 +135,10 @@ abbrev from_tokens : List Token → Option Data
 from_tokens ts = option_and_then of_json (option_and_then (λ p. json.if_last p.0 p.1) (json.value 127 ts))
 
 -- the text of a value is read as its outline is
-read-text : (d : Data) → IsTold d → depth d ≤ 127 → read (compact_text d) ≡ of_json (outline d)
-read-text d told shallow =
+read-text : (d : Data) → IsReported d → depth d ≤ 127 → read (compact_text d) ≡ of_json (outline d)
+read-text d pairs_view shallow =
     let j : json.Json = outline d in
-    let printable = ArePrintable-json_tokens j (has-numbers d told) in
+    let printable = ArePrintable-json_tokens j (has-numbers d pairs_view) in
     let deep : tree.depth j ≤ 127 = subst (λ n. n ≤ 127) (sym (depth-outline d)) shallow in
     let parsed : json.value 127 (tree.json_tokens j ++ []) ≡ Some (j, []) = value-json_tokens j 127 [] deep in
     ap read (sym (print-outline d))
@@ -152,27 +152,27 @@ number-back n h = ap (option_map number) (number_of-decimal n h)
 
 -- the value can be written, and is its outline
 record IsBack (d : Data) : Type 0 where
-  pub told : IsTold d
+  pub pairs_view : IsReported d
   pub back : of_json (outline d) ≡ Some d
 
 whole-back : (n : ℕ) → n < 2 ^ 64 → IsBack (whole_for n)
-whole-back n h = record { told = h; back = number-back n h }
+whole-back n h = record { pairs_view = h; back = number-back n h }
 
-items-told : {A : Type 0} (P : A → Type 0) (write : A → Data) (xs : List A) → ((x : A) → P x → IsBack (write x)) → All P xs → AreTold (items_of (map write xs))
+items-told : {A : Type 0} (P : A → Type 0) (write : A → Data) (xs : List A) → ((x : A) → P x → IsBack (write x)) → All P xs → AreReported (items_of (map write xs))
 items-told P write [] one all = tt
-items-told P write (x ∷ xs) one all = ((one x (All-head P x xs all)).told, items-told P write xs one (All-tail P x xs all))
+items-told P write (x ∷ xs) one all = ((one x (All-head P x xs all)).pairs_view, items-told P write xs one (All-tail P x xs all))
 
 items-back : {A : Type 0} (P : A → Type 0) (write : A → Data) (xs : List A) → ((x : A) → P x → IsBack (write x)) → All P xs → of_items (items_outline (items_of (map write xs))) ≡ Some (items_of (map write xs))
 items-back P write [] one all = refl
 items-back P write (x ∷ xs) one all = rw ((one x (All-head P x xs all)).back, items-back P write xs one (All-tail P x xs all)) refl
 
 list-back : {A : Type 0} (P : A → Type 0) (write : A → Data) (xs : List A) → ((x : A) → P x → IsBack (write x)) → All P xs → IsBack (list_for write xs)
-list-back P write xs one all = record { told = items-told P write xs one all; back = ap (option_map array) (items-back P write xs one all) }
+list-back P write xs one all = record { pairs_view = items-told P write xs one all; back = ap (option_map array) (items-back P write xs one all) }
 
 -- ---- stations and workers
 
 value-back : (v : Option ℕ) → MatchOption v ⊤ (λ n. n ≤ 1000000000000000) → IsBack (value_for v)
-value-back None h = record { told = tt; back = refl }
+value-back None h = record { pairs_view = tt; back = refl }
 value-back (Some n) h = whole-back n (omega (arith, h))
 
 abbrev IsGoodStation : Station → Type 0
@@ -182,7 +182,7 @@ station-is : (x : Station) → IsBack (whole_for x.id) → IsBack (value_for x.v
 unfolding station_for
 station-is x id value volume =
     record {
-      told = (IsUtf8-are_ascii (codes "id") refl, id.told, (IsUtf8-are_ascii (codes "value") refl, value.told, (IsUtf8-are_ascii (codes "volume") refl, volume.told, tt)));
+      pairs_view = (IsUtf8-are_ascii (codes "id") refl, id.pairs_view, (IsUtf8-are_ascii (codes "value") refl, value.pairs_view, (IsUtf8-are_ascii (codes "volume") refl, volume.pairs_view, tt)));
       back = rw (id.back, value.back, volume.back) refl;
     }
 
@@ -194,14 +194,14 @@ station-back x good =
     station-is x (whole-back x.id (omega (arith, low))) (value-back x.value limits.value) (whole-back x.volume (omega (arith, volume)))
 
 kind-back : (k : Kind) → IsBack (string (kind_text k))
-kind-back Cdcl = record { told = IsUtf8-are_ascii (codes "cdcl") refl; back = refl }
-kind-back Walk = record { told = IsUtf8-are_ascii (codes "walk") refl; back = refl }
+kind-back Cdcl = record { pairs_view = IsUtf8-are_ascii (codes "cdcl") refl; back = refl }
+kind-back Walk = record { pairs_view = IsUtf8-are_ascii (codes "walk") refl; back = refl }
 
 worker-is : (w : Worker) → IsBack (whole_for w.budget) → IsBack (string (kind_text w.kind)) → IsBack (whole_for w.seed) → IsBack (worker_for w)
 unfolding worker_for
 worker-is w budget kind seed =
     record {
-      told = (IsUtf8-are_ascii (codes "budget") refl, budget.told, (IsUtf8-are_ascii (codes "kind") refl, kind.told, (IsUtf8-are_ascii (codes "seed") refl, seed.told, tt)));
+      pairs_view = (IsUtf8-are_ascii (codes "budget") refl, budget.pairs_view, (IsUtf8-are_ascii (codes "kind") refl, kind.pairs_view, (IsUtf8-are_ascii (codes "seed") refl, seed.pairs_view, tt)));
       back = rw (budget.back, seed.back) refl;
     }
 
@@ -232,7 +232,7 @@ listed-back : (ds : List ℕ) (sc : Scenario) → IsBack (list_for whole_for ds)
 unfolding members_for last_members
 listed-back ds sc decrements last =
     record {
-      told = (IsUtf8-are_ascii (codes "decrements") refl, decrements.told, (IsUtf8-are_ascii (codes "opening") refl, last.opening.told, (IsUtf8-are_ascii (codes "stations") refl, last.stations.told, (IsUtf8-are_ascii (codes "top") refl, last.top.told, (IsUtf8-are_ascii (codes "version") refl, last.version.told, (IsUtf8-are_ascii (codes "workers") refl, last.workers.told, tt))))));
+      pairs_view = (IsUtf8-are_ascii (codes "decrements") refl, decrements.pairs_view, (IsUtf8-are_ascii (codes "opening") refl, last.opening.pairs_view, (IsUtf8-are_ascii (codes "stations") refl, last.stations.pairs_view, (IsUtf8-are_ascii (codes "top") refl, last.top.pairs_view, (IsUtf8-are_ascii (codes "version") refl, last.version.pairs_view, (IsUtf8-are_ascii (codes "workers") refl, last.workers.pairs_view, tt))))));
       back = rw (decrements.back, last.opening.back, last.stations.back, last.top.back, last.version.back, last.workers.back) refl;
     }
 
@@ -240,7 +240,7 @@ rated-back : (rate floor : ℕ) (sc : Scenario) → IsBack (whole_for rate) → 
 unfolding members_for last_members
 rated-back rate floor sc by least last =
     record {
-      told = (IsUtf8-are_ascii (codes "floor") refl, least.told, (IsUtf8-are_ascii (codes "opening") refl, last.opening.told, (IsUtf8-are_ascii (codes "rate") refl, by.told, (IsUtf8-are_ascii (codes "stations") refl, last.stations.told, (IsUtf8-are_ascii (codes "top") refl, last.top.told, (IsUtf8-are_ascii (codes "version") refl, last.version.told, (IsUtf8-are_ascii (codes "workers") refl, last.workers.told, tt)))))));
+      pairs_view = (IsUtf8-are_ascii (codes "floor") refl, least.pairs_view, (IsUtf8-are_ascii (codes "opening") refl, last.opening.pairs_view, (IsUtf8-are_ascii (codes "rate") refl, by.pairs_view, (IsUtf8-are_ascii (codes "stations") refl, last.stations.pairs_view, (IsUtf8-are_ascii (codes "top") refl, last.top.pairs_view, (IsUtf8-are_ascii (codes "version") refl, last.version.pairs_view, (IsUtf8-are_ascii (codes "workers") refl, last.workers.pairs_view, tt)))))));
       back = rw (least.back, last.opening.back, by.back, last.stations.back, last.top.back, last.version.back, last.workers.back) refl;
     }
 
@@ -264,7 +264,7 @@ version-small (Rated rate floor) n e = omega (arith, e)
 both : {A : Type 0} (P Q : A → Type 0) (xs : List A) → All P xs → All Q xs → All (λ x. P x × Q x) xs
 both P Q xs p q = λ k d inside. (p k d inside, q k d inside)
 
-last-back : (sc : Scenario) → IsOfAFile sc → HasLast sc
+last-back : (sc : Scenario) → IsWritableScenario sc → HasLast sc
 last-back sc file =
     let limits : IsWithinLimits sc = file.limits in
     let opening : sc.opening ≤ 1000000 = limits.opening in
@@ -279,10 +279,10 @@ last-back sc file =
       workers = list-back IsGoodWorker worker_for sc.workers worker-back workers;
     }
 
-pub written-reads : (sc : Scenario) → IsOfAFile sc → scenario_of (compact_text (data_for sc)) ≡ Ok sc
+pub written-reads : (sc : Scenario) → IsWritableScenario sc → scenario_of (compact_text (data_for sc)) ≡ Ok sc
 written-reads sc file =
     let limits : IsWithinLimits sc = file.limits in
-    let whole : IsBack (data_for sc) = fall-back sc.fall sc sc.opening limits.fall (last-back sc file) in
+    let whole_number : IsBack (data_for sc) = fall-back sc.fall sc sc.opening limits.fall (last-back sc file) in
     let bytes : List ℕ = compact_text (data_for sc) in
     text-reads sc bytes limits file.numbers file.by_value
-    (sym (json-is bytes (data_for sc) (text-utf8 (data_for sc) whole.told) (read-text (data_for sc) whole.told (data-shallow sc) ∙ whole.back)))
+    (sym (json-is bytes (data_for sc) (text-utf8 (data_for sc) whole_number.pairs_view) (read-text (data_for sc) whole_number.pairs_view (data-shallow sc) ∙ whole_number.back)))

@@ -2,6 +2,6 @@ pub mod Name
 pub mod Steps
 pub mod Members
 pub mod ScenarioOf
-pub mod Joined
+pub mod Join
 pub mod StartOnly
-pub mod Written
+pub mod Write

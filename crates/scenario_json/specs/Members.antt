@@ -19,8 +19,8 @@ abbrev pub member : Name → ℕ → Data → Result Data ScenarioErr
 member name at d = ok_or (get (name_text name) d) (MissingField name at)
 
 -- The value, which must be a whole number, 0 to 2^64 - 1, written without point or exponent.
-abbrev pub whole : Name → ℕ → Data → Result ℕ ScenarioErr
-whole name at d = ok_or (option_and_then as_u64 (as_number d)) (WrongKind name at)
+abbrev pub whole_number : Name → ℕ → Data → Result ℕ ScenarioErr
+whole_number name at d = ok_or (option_and_then as_u64 (as_number d)) (WrongKind name at)
 
 -- The number, which must be from `least` to `most`.
 abbrev pub within_limits : Name → ℕ → ℕ → ℕ → ℕ → Result ℕ ScenarioErr
@@ -30,7 +30,7 @@ within_limits name at least most n = if nat_lt n least || nat_lt most n then Err
 abbrev pub member_number : Name → ℕ → ℕ → ℕ → Data → Result ℕ ScenarioErr
 member_number name at least most d = do
   found ← member name at d
-  n ← whole name at found
+  n ← whole_number name at found
   within_limits name at least most n
 
 -- The items of an array, as a list.

@@ -6,7 +6,7 @@ ghost use Rattle.scenario_json.specs.ScenarioOf.{decrement_in, decrements_in};
 ghost use Rattle.scenario_json.specs.Steps.{ScenarioReads, each_from};
 
 use crate::error::ScenarioErr;
-use crate::members::{list, whole, within};
+use crate::members::{list, whole_number, within};
 use crate::name::Name;
 use pack_defs::items::Items;
 use pack_defs::limits::{MOST_DECREMENT, MOST_ROUNDS};
@@ -24,7 +24,7 @@ pub(crate) fn decrements_in(
 {
     let items = list(object, Name::Decrements, 0, MOST_ROUNDS)?;
     let decrements = decrements_from(alloc, items)?;
-    if !falls_within(decrements.as_slice(), opening) {
+    if !are_within_opening(decrements.as_slice(), opening) {
         return Err(ScenarioErr::SumOverOpening);
     }
     Ok(decrements)
@@ -45,12 +45,12 @@ fn decrements_from(alloc: Global, items: &[Value]) -> Result<Items<u32>, Scenari
 fn decrement_in(item: &Value, at: u64) -> Result<u32, ScenarioErr>
     ensures { result ≡ decrement_in at (view item.now) }
 {
-    let number = whole(item, Name::Decrements, at)?;
+    let number = whole_number(item, Name::Decrements, at)?;
     Ok(within(number, Name::Decrements, at, 1, MOST_DECREMENT)? as u32)
 }
 
 // Whether the sum of the decrements is at most the opening price.
-fn falls_within(decrements: &[u32], opening: u32) -> bool
+fn are_within_opening(decrements: &[u32], opening: u32) -> bool
     ensures { result ≡ nat_le (sum decrements.now) opening }
 {
     let mut left = opening;

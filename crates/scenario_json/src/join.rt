@@ -1,7 +1,7 @@
 //! The book of a scenario's stations, from the domains and the pairs of the constraint files.
 ghost use Rattle.std.specs.Prelude.{◌≡◌, IfOk, map};
 ghost use Rattle.pack_defs.specs.Scenario.{IsWithinLimits};
-ghost use Rattle.scenario_json.specs.Joined.{Joins, first_missing, joined};
+ghost use Rattle.scenario_json.specs.Join.{Joins, first_missing, joined};
 ghost use Rattle.scenario_json.specs.declared.join.JoinErr.TheVariants.{NoMemory};
 
 use constraint_files::domains::Domains;
@@ -37,7 +37,7 @@ impl From<AllocError> for JoinErr {
 /// # Errors
 ///
 /// `MissingDomain` with the least station of the scenario that has no domain, or `NoMemory`.
-#[tactic(auto, unfolding(crate::specs::Joined::joined))]
+#[tactic(auto, unfolding(crate::specs::Join::joined))]
 pub fn join(alloc: Global, sc: &Scenario, domains: &Domains, pairs: &Pairs) -> Result<Book, JoinErr>
     requires { IsWithinLimits sc.now }
     ensures { Joins (joined sc.now domains.now pairs.now.list) result }

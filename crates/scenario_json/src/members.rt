@@ -3,7 +3,7 @@
 ghost use Rattle.std.specs.Prelude.{◌≡◌, ◌≤◌, IfOk, map};
 ghost use Rattle.std.specs.Result.{result_map_both};
 ghost use Rattle.serde_json.specs.View.{view};
-ghost use Rattle.scenario_json.specs.Members.{array_in, list, member, member_number, object_in, whole, within_limits};
+ghost use Rattle.scenario_json.specs.Members.{array_in, list, member, member_number, object_in, whole_number, within_limits};
 
 use crate::error::ScenarioErr;
 use crate::name::Name;
@@ -30,8 +30,8 @@ pub(crate) fn member(object: &Value, name: Name, at: u64) -> Result<&Value, Scen
 }
 
 /// Returns the whole number that the value is, 0 to 2^64 - 1.
-pub(crate) fn whole(value: &Value, name: Name, at: u64) -> Result<u64, ScenarioErr>
-    ensures { result ≡ whole name at (view value.now) }
+pub(crate) fn whole_number(value: &Value, name: Name, at: u64) -> Result<u64, ScenarioErr>
+    ensures { result ≡ whole_number name at (view value.now) }
 {
     let Some(number) = value.as_u64() else {
         return Err(ScenarioErr::WrongKind { name, at });
@@ -68,7 +68,7 @@ pub(crate) fn number(
     ensures limits { IfOk result (λ n. (least ≤ n) × (n ≤ most)) }
 {
     let found = member(object, name, at)?;
-    let number = whole(found, name, at)?;
+    let number = whole_number(found, name, at)?;
     within(number, name, at, least, most)
 }
 

@@ -21,7 +21,7 @@ pub fn start_only(alloc: Global, sc: &Scenario, top: u8) -> Result<Scenario, All
     requires top { top ≤ GREATEST_CHANNEL }
     ensures { IfOk result (λ only. only ≡ start_only sc.now top) }
 {
-    let stations = starting(alloc, sc)?;
+    let stations = start_stations(alloc, sc)?;
     let workers = Vec::from_slice(alloc, sc.workers.as_slice())?;
     let owners = copied_owners(alloc, sc)?;
     Ok(Scenario {
@@ -36,7 +36,7 @@ pub fn start_only(alloc: Global, sc: &Scenario, top: u8) -> Result<Scenario, All
 }
 
 // Returns the stations that decline the opening offer, in their order.
-fn starting(alloc: Global, sc: &Scenario) -> Result<Vec<Station>, AllocError>
+fn start_stations(alloc: Global, sc: &Scenario) -> Result<Vec<Station>, AllocError>
     ensures { IfOk result (λ v. v.items ≡ filter (declines_opening sc.now) sc.now.stations) }
 {
     let stations = sc.stations.as_slice().iter().copied();

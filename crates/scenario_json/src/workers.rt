@@ -9,7 +9,7 @@ ghost use Rattle.scenario_json.specs.ScenarioOf.{kind_in, kind_named, seed_in, w
 ghost use Rattle.scenario_json.specs.Steps.{ScenarioReads, each_from};
 
 use crate::error::ScenarioErr;
-use crate::members::{list, member, number, object_in, whole};
+use crate::members::{list, member, number, object_in, whole_number};
 use crate::name::Name;
 use pack_defs::items::Items;
 use pack_defs::limits::{MOST_MOVES, MOST_PROOF_LINES, MOST_WORKERS};
@@ -24,7 +24,7 @@ pub(crate) fn workers_in(alloc: Global, object: &Value) -> Result<Items<Worker>,
 {
     let items = list(object, Name::Workers, 1, MOST_WORKERS)?;
     let workers = workers_from(alloc, items)?;
-    if !one_proves(workers.as_slice()) {
+    if !has_prover(workers.as_slice()) {
         return Err(ScenarioErr::NoProver);
     }
     Ok(workers)
@@ -41,7 +41,7 @@ fn workers_from(alloc: Global, items: &[Value]) -> Result<Items<Worker>, Scenari
     Ok(Items::from_vec(workers))
 }
 
-fn one_proves(workers: &[Worker]) -> bool
+fn has_prover(workers: &[Worker]) -> bool
     ensures { result ≡ list_any is_prover workers.now }
 {
     workers.iter().any(is_prover)
@@ -113,7 +113,7 @@ fn seed_in(object: &Value, at: u64) -> Result<u64, ScenarioErr>
     ensures { result ≡ seed_in at (view object.now) }
 {
     match object.get(Name::Seed.text()) {
-        Some(seed) => whole(seed, Name::Seed, at),
+        Some(seed) => whole_number(seed, Name::Seed, at),
         None => Ok(0),
     }
 }

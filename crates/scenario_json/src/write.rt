@@ -7,7 +7,7 @@ ghost use Rattle.pack_defs.specs.Scenario.{IsWithinLimits};
 ghost use Rattle.serde_json.specs.Data.{object};
 ghost use Rattle.pack_defs.specs.declared.fall.Fall.TheVariants.{Listed, Rated};
 ghost use Rattle.scenario_json.specs.ScenarioOf.{scenario_of};
-ghost use Rattle.scenario_json.specs.Written.{IsFileNumber, data_for, kind_text, list_for, members_for, station_for, value_for, whole_for, worker_for};
+ghost use Rattle.scenario_json.specs.Write.{IsFileNumber, data_for, kind_text, list_for, members_for, station_for, value_for, whole_for, worker_for};
 
 use pack_defs::fall::Fall;
 use pack_defs::scenario::Scenario;
@@ -59,7 +59,7 @@ fn scenario_value(alloc: Global, sc: &Scenario) -> Result<Value, NoMemory>
 }
 
 // Returns the object of a scenario whose price falls by these decrements.
-#[tactic(auto, unfolding(crate::specs::Written::members_for, crate::specs::Written::last_members))]
+#[tactic(auto, unfolding(crate::specs::Write::members_for, crate::specs::Write::last_members))]
 fn listed_value(alloc: Global, sc: &Scenario, decrements: &[u32]) -> Result<Value, NoMemory>
     ensures { IfOk result (λ v. view v ≡ object (members_for (Listed decrements.now) sc.now)) }
 {
@@ -77,7 +77,7 @@ fn listed_value(alloc: Global, sc: &Scenario, decrements: &[u32]) -> Result<Valu
 }
 
 // Returns the object of a scenario whose price falls by this rate and floor.
-#[tactic(auto, unfolding(crate::specs::Written::members_for, crate::specs::Written::last_members))]
+#[tactic(auto, unfolding(crate::specs::Write::members_for, crate::specs::Write::last_members))]
 fn rated_value(alloc: Global, sc: &Scenario, rate: u32, floor: u32) -> Result<Value, NoMemory>
     ensures { IfOk result (λ v. view v ≡ object (members_for (Rated rate floor) sc.now)) }
 {
@@ -117,7 +117,7 @@ fn stations_value(alloc: Global, stations: &[Station]) -> Result<Value, NoMemory
 }
 
 // Returns the object of a station.
-#[tactic(auto, unfolding(crate::specs::Written::station_for))]
+#[tactic(auto, unfolding(crate::specs::Write::station_for))]
 fn station_value(alloc: Global, station: &Station) -> Result<Value, NoMemory>
     ensures { IfOk result (λ v. view v ≡ station_for station.now) }
 {
@@ -147,7 +147,7 @@ fn workers_value(alloc: Global, workers: &[Worker]) -> Result<Value, NoMemory>
 }
 
 // Returns the object of a worker.
-#[tactic(auto, unfolding(crate::specs::Written::worker_for))]
+#[tactic(auto, unfolding(crate::specs::Write::worker_for))]
 fn worker_value(alloc: Global, worker: &Worker) -> Result<Value, NoMemory>
     ensures { IfOk result (λ v. view v ≡ worker_for worker.now) }
 {

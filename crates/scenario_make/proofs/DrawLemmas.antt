@@ -6,7 +6,7 @@ use Rattle.pack_defs.specs.declared.station.Station.{Station}
 use Rattle.rand_pcg.specs.Lcg.{Lcg}
 use Rattle.rand_pcg.specs.Pcg.{pcg32}
 use Rattle.scenario_make.specs.Draws.{draw_at, generator_after}
-use Rattle.scenario_make.specs.MadeFiles.{behind_links, block_end, link_draws, made_rows_at, made_station, made_value, made_volume}
+use Rattle.scenario_make.specs.GeneratedFiles.{behind_links, block_end, link_draws, generated_rows_at, generated_station, generated_value, generated_volume}
 use Rattle.scenario_make.proofs.RangeLemmas.{filter-more, written-more}
 
 -- one more word
@@ -25,14 +25,14 @@ abbrev pub station-with : ℕ → ℕ → ℕ → Station
 station-with s v w = record { id = s; volume = v; value = Some w }
 
 -- the station of these two draws
-pub station-is : (g h next : Lcg) (i volume value : ℕ) → h ≡ generator_after g (2 * i) → next ≡ (pcg32 h).1 → volume ≡ 1 + (pcg32 h).0 % 1000 → value ≡ (pcg32 next).0 % (100 * volume + 1) → station-with (i + 1) volume value ≡ made_station g (i + 1)
+pub station-is : (g h next : Lcg) (i volume value : ℕ) → h ≡ generator_after g (2 * i) → next ≡ (pcg32 h).1 → volume ≡ 1 + (pcg32 h).0 % 1000 → value ≡ (pcg32 next).0 % (100 * volume + 1) → station-with (i + 1) volume value ≡ generated_station g (i + 1)
 station-is g h next i volume value e n v w =
     let first : 2 * (i + 1 - 1) ≡ 2 * i = omega arith in
     let second : 2 * (i + 1 - 1) + 1 ≡ 2 * i + 1 = omega arith in
-    let made : volume ≡ made_volume g (i + 1) = v ∙ ap (λ x. 1 + (pcg32 x).0 % 1000) (e ∙ ap (generator_after g) (sym first)) in
+    let made : volume ≡ generated_volume g (i + 1) = v ∙ ap (λ x. 1 + (pcg32 x).0 % 1000) (e ∙ ap (generator_after g) (sym first)) in
     let later : next ≡ generator_after g (2 * (i + 1 - 1) + 1) = n ∙ after-one g h (2 * i) (2 * (i + 1 - 1) + 1) e second in
-    let drawn : value ≡ made_value g (i + 1) = w ∙ (ap (λ x. (pcg32 x).0 % (100 * volume + 1)) later ∙ ap (λ m. draw_at g (2 * (i + 1 - 1) + 1) (100 * m + 1)) made) in
-    ap (λ m. station-with (i + 1) m value) made ∙ ap (λ m. station-with (i + 1) (made_volume g (i + 1)) m) drawn
+    let drawn : value ≡ generated_value g (i + 1) = w ∙ (ap (λ x. (pcg32 x).0 % (100 * volume + 1)) later ∙ ap (λ m. draw_at g (2 * (i + 1 - 1) + 1) (100 * m + 1)) made) in
+    ap (λ m. station-with (i + 1) m value) made ∙ ap (λ m. station-with (i + 1) (generated_volume g (i + 1)) m) drawn
 
 -- the two draws of a station
 pub after-two : (g h next : Lcg) (i : ℕ) → h ≡ generator_after g (2 * i) → next ≡ (pcg32 h).1 → (pcg32 next).1 ≡ generator_after g (2 * (i + 1))
@@ -84,12 +84,12 @@ behind-one g h next size i end e m n =
     rw (n, e, m, k) refl
 
 -- the lines of this station
-pub rows-one : (g h : Lcg) (size i end : ℕ) (text new : List ℕ) → h ≡ behind_links g size i → end ≡ block_end size (i + 1) → new ≡ text ++ made_rows_at h (i + 1) end → text ≡ flat_map (λ s. made_rows_at (behind_links g size (s - 1)) s (block_end size s)) (range_with_len 1 i) → new ≡ flat_map (λ s. made_rows_at (behind_links g size (s - 1)) s (block_end size s)) (range_with_len 1 (i + 1))
+pub rows-one : (g h : Lcg) (size i end : ℕ) (text new : List ℕ) → h ≡ behind_links g size i → end ≡ block_end size (i + 1) → new ≡ text ++ generated_rows_at h (i + 1) end → text ≡ flat_map (λ s. generated_rows_at (behind_links g size (s - 1)) s (block_end size s)) (range_with_len 1 i) → new ≡ flat_map (λ s. generated_rows_at (behind_links g size (s - 1)) s (block_end size s)) (range_with_len 1 (i + 1))
 rows-one g h size i end text new e m n old =
     let k : 1 + i ≡ i + 1 = omega arith in
     let j : i ≡ 1 + i - 1 = omega arith in
-    let rows : made_rows_at h (i + 1) end ≡ made_rows_at (behind_links g size (1 + i - 1)) (1 + i) (block_end size (1 + i)) =
-    ap (λ x. made_rows_at x (i + 1) end) (e ∙ ap (behind_links g size) j)
-    ∙ (ap (λ x. made_rows_at (behind_links g size (1 + i - 1)) (i + 1) x) m
-    ∙ ap (λ s. made_rows_at (behind_links g size (1 + i - 1)) s (block_end size s)) (sym k)) in
-    written-more (λ s. made_rows_at (behind_links g size (s - 1)) s (block_end size s)) 1 i text new old (n ∙ ap (λ r. text ++ r) rows)
+    let rows : generated_rows_at h (i + 1) end ≡ generated_rows_at (behind_links g size (1 + i - 1)) (1 + i) (block_end size (1 + i)) =
+    ap (λ x. generated_rows_at x (i + 1) end) (e ∙ ap (behind_links g size) j)
+    ∙ (ap (λ x. generated_rows_at (behind_links g size (1 + i - 1)) (i + 1) x) m
+    ∙ ap (λ s. generated_rows_at (behind_links g size (1 + i - 1)) s (block_end size s)) (sym k)) in
+    written-more (λ s. generated_rows_at (behind_links g size (s - 1)) s (block_end size s)) 1 i text new old (n ∙ ap (λ r. text ++ r) rows)

@@ -11,11 +11,11 @@ use Rattle.csv.specs.Reading.{default_config, records, strip_bom}
 use Rattle.csv.specs.declared.parser.State.TheVariants as st
 use Rattle.pack_defs.specs.Lists.{is_empty}
 use Rattle.pack_defs.proofs.Digits.{digit-value, own-numerals}
-use Rattle.constraint_files.specs.Numbers.{number, numbers}
+use Rattle.constraint_files.specs.Field.{number, numbers}
 use Rattle.constraint_files.specs.Records.{is_blank, kept_fields, line_records, lines_of, trimmed, without_leading, without_trailing}
 use Rattle.constraint_files.proofs.CsvLemmas.{records-rows, rows, rows_from}
 use Rattle.constraint_files.proofs.NumberLemmas.{all-digits}
-use Rattle.scenario_make.specs.MadeFiles.{behind_commas, key_line}
+use Rattle.scenario_make.specs.GeneratedFiles.{comma_prefixed, key_line}
 use Rattle.pack_defs.proofs.Words.{not-empty}
 
 -- ---- numbers
@@ -132,20 +132,20 @@ at-end : (fields : List (List ℕ)) (field : List ℕ) → rows_from st.InField 
 unfolding rows_from
 at-end fields field = refl
 
-one-record : (fields : List (List ℕ)) (field : List ℕ) (ns : List ℕ) → AreSmall ns → rows_from st.InField fields field (behind_commas ns) ≡ (fields ++ field ∷ map decimal ns) ∷ []
+one-record : (fields : List (List ℕ)) (field : List ℕ) (ns : List ℕ) → AreSmall ns → rows_from st.InField fields field (comma_prefixed ns) ≡ (fields ++ field ∷ map decimal ns) ∷ []
 one-record fields field [] h = at-end fields field
 one-record fields field (n ∷ ns) h =
-    at-comma fields field (decimal n ++ behind_commas ns)
-    ∙ (starts (fields ++ field ∷ []) (decimal n) (behind_commas ns) (digits n h.0) (some-digit n h.0)
+    at-comma fields field (decimal n ++ comma_prefixed ns)
+    ∙ (starts (fields ++ field ∷ []) (decimal n) (comma_prefixed ns) (digits n h.0) (some-digit n h.0)
     ∙ (one-record (fields ++ field ∷ []) (decimal n) ns h.1
     ∙ ap (λ r. r ∷ []) (append_assoc fields (field ∷ []) (decimal n ∷ map decimal ns))))
 
 -- the one record of a line
-pub line-record : (key : List ℕ) (n : ℕ) (ns : List ℕ) → IsKey key → AreSmall (n ∷ ns) → line_records (key ++ behind_commas (n ∷ ns)) ≡ (key ∷ map decimal (n ∷ ns)) ∷ []
+pub line-record : (key : List ℕ) (n : ℕ) (ns : List ℕ) → IsKey key → AreSmall (n ∷ ns) → line_records (key ++ comma_prefixed (n ∷ ns)) ≡ (key ∷ map decimal (n ∷ ns)) ∷ []
 line-record key n ns k h =
-    let raw : records default_config (strip_bom (key ++ behind_commas (n ∷ ns))) ≡ (key ∷ map decimal (n ∷ ns)) ∷ [] =
-    ap (records default_config) (k.unmarked (decimal n ++ behind_commas ns))
-    ∙ (records-rows (key ++ behind_commas (n ∷ ns)) ∙ (k.begins (behind_commas (n ∷ ns)) ∙ one-record [] key (n ∷ ns) h)) in
+    let raw : records default_config (strip_bom (key ++ comma_prefixed (n ∷ ns))) ≡ (key ∷ map decimal (n ∷ ns)) ∷ [] =
+    ap (records default_config) (k.unmarked (decimal n ++ comma_prefixed ns))
+    ∙ (records-rows (key ++ comma_prefixed (n ∷ ns)) ∙ (k.begins (comma_prefixed (n ∷ ns)) ∙ one-record [] key (n ∷ ns) h)) in
     ap (λ rs. filter (λ (r : List (List ℕ)). not (is_empty r)) (map kept_fields rs)) raw
     ∙ ap (λ r. filter (λ (q : List (List ℕ)). not (is_empty q)) (r ∷ [])) (kept key (n ∷ ns) k h)
 
@@ -161,10 +161,10 @@ digits-plain (c ∷ ds) h =
     let d = digit-value c parts.0 in
     (omega (arith, d.0), digits-plain ds parts.1)
 
-commas-plain : (ns : List ℕ) → AreSmall ns → IsPlainLine (behind_commas ns)
+commas-plain : (ns : List ℕ) → AreSmall ns → IsPlainLine (comma_prefixed ns)
 commas-plain [] h = tt
 commas-plain (n ∷ ns) h =
-    (omega arith, all-append (λ c. 13 < c) (decimal n) (behind_commas ns) (digits-plain (decimal n) (digits n h.0)) (commas-plain ns h.1))
+    (omega arith, all-append (λ c. 13 < c) (decimal n) (comma_prefixed ns) (digits-plain (decimal n) (digits n h.0)) (commas-plain ns h.1))
 
 first-line : (line rest : List ℕ) → IsPlainLine line → lines_of (line ++ 10 ∷ rest) ≡ line ∷ lines_of rest
 unfolding lines_of
@@ -174,12 +174,12 @@ first-line (c ∷ line) rest h =
     rw (ne_eqb c 10 feed, first-line line rest h.1) refl
 
 -- a line before the rest of a text
-pub line-first : (key ns rest : List ℕ) → IsKey key → AreSmall ns → lines_of (key_line key ns ++ rest) ≡ (key ++ behind_commas ns) ∷ lines_of rest
+pub line-first : (key ns rest : List ℕ) → IsKey key → AreSmall ns → lines_of (key_line key ns ++ rest) ≡ (key ++ comma_prefixed ns) ∷ lines_of rest
 line-first key ns rest k h =
-    let parts : key_line key ns ++ rest ≡ (key ++ behind_commas ns) ++ 10 ∷ rest =
-    append_assoc key (behind_commas ns ++ 10 ∷ []) rest
-    ∙ (ap (λ t. key ++ t) (append_assoc (behind_commas ns) (10 ∷ []) rest) ∙ sym (append_assoc key (behind_commas ns) (10 ∷ rest))) in
-    ap lines_of parts ∙ first-line (key ++ behind_commas ns) rest (all-append (λ c. 13 < c) key (behind_commas ns) k.plain (commas-plain ns h))
+    let parts : key_line key ns ++ rest ≡ (key ++ comma_prefixed ns) ++ 10 ∷ rest =
+    append_assoc key (comma_prefixed ns ++ 10 ∷ []) rest
+    ∙ (ap (λ t. key ++ t) (append_assoc (comma_prefixed ns) (10 ∷ []) rest) ∙ sym (append_assoc key (comma_prefixed ns) (10 ∷ rest))) in
+    ap lines_of parts ∙ first-line (key ++ comma_prefixed ns) rest (all-append (λ c. 13 < c) key (comma_prefixed ns) k.plain (commas-plain ns h))
 
 -- ---- the keys
 

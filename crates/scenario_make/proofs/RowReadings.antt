@@ -7,71 +7,71 @@ use Rattle.std.proofs.lemmas.List.{append-nil}
 use Rattle.pack_defs.specs.Lists.{is_in}
 use Rattle.pack_defs.specs.declared.domain.Domain.{Domain}
 use Rattle.constraint_files.specs.Domains.{channels_of}
-use Rattle.constraint_files.specs.Numbers.{number, numbers}
+use Rattle.constraint_files.specs.Field.{number, numbers}
 use Rattle.constraint_files.specs.Records.{after_lines, lines_of}
-use Rattle.constraint_files.specs.Rows.{PairsView, add_row, interference_row, pair_of, pairs_of, row_of_fields, row_on, with_kept, with_other}
+use Rattle.constraint_files.specs.PairTable.{PairsView, add_row, interference_row, pair_of, pairs_of, row_of_fields, row_on, with_kept, with_other}
 use Rattle.constraint_files.specs.declared.interference_row.Offset.{Offset}
 use Rattle.constraint_files.specs.declared.interference_row.Row.{Row}
 use Rattle.rand_pcg.specs.Lcg.{Lcg}
 use Rattle.scenario_make.specs.Draws.{draw_at, generator_after, generator_of}
-use Rattle.scenario_make.specs.MadeFiles.{behind_links, block_end, key_line, made_adjacent, made_adjacent_lines, made_link_lines, made_links, made_rows, made_rows_at, made_rows_from}
+use Rattle.scenario_make.specs.GeneratedFiles.{behind_links, block_end, key_line, is_generated_adjacent, generated_adjacent_lines, generated_link_lines, generated_links, generated_rows, generated_rows_at, generated_rows_from}
 use Rattle.scenario_make.proofs.LineReadings.{AreSmall, IsKey, adjacent-key, number-again, numbers-again, same-key}
 use Rattle.scenario_make.proofs.DomainReadings.{line-adds}
 use Rattle.constraint_files.proofs.PairOrder.{with-few}
 
 -- ---- how many pairs a row adds
 
-kept-adds : (own theirs : Option (List ℕ)) (row : Row) (told : PairsView) (t : ℕ) → length (with_kept own theirs row told t).list ≤ length told.list + 1
-kept-adds None theirs row told t = omega arith
-kept-adds (Some own) None row told t = omega arith
-kept-adds (Some own) (Some theirs) row told t = elim (cases_Bool (is_in own row.channel && is_in theirs row.other_channel)) [
-  | inl b ↦ rw b (with-few told.list (pair_of row.station row.channel t row.other_channel))
+kept-adds : (own theirs : Option (List ℕ)) (row : Row) (pairs_view : PairsView) (t : ℕ) → length (with_kept own theirs row pairs_view t).list ≤ length pairs_view.list + 1
+kept-adds None theirs row pairs_view t = omega arith
+kept-adds (Some own) None row pairs_view t = omega arith
+kept-adds (Some own) (Some theirs) row pairs_view t = elim (cases_Bool (is_in own row.channel && is_in theirs row.other_channel)) [
+  | inl b ↦ rw b (with-few pairs_view.list (pair_of row.station row.channel t row.other_channel))
   | inr f ↦ rw f (omega arith)
 ]
 
-other-adds : (domains : List Domain) (row : Row) (told : PairsView) (t : ℕ) → length (with_other domains row told t).list ≤ length told.list + 1
-other-adds domains row told t = elim (cases_Bool (t == row.station)) [
+other-adds : (domains : List Domain) (row : Row) (pairs_view : PairsView) (t : ℕ) → length (with_other domains row pairs_view t).list ≤ length pairs_view.list + 1
+other-adds domains row pairs_view t = elim (cases_Bool (t == row.station)) [
   | inl b ↦ rw b (omega arith)
-  | inr f ↦ rw f (kept-adds (channels_of domains row.station) (channels_of domains t) row told t)
+  | inr f ↦ rw f (kept-adds (channels_of domains row.station) (channels_of domains t) row pairs_view t)
 ]
 
-others-add : (domains : List Domain) (row : Row) (told : PairsView) (ts : List ℕ) → length (fold (with_other domains row) told ts).list ≤ length told.list + length ts
-others-add domains row told [] = omega arith
-others-add domains row told (t ∷ ts) =
-    let one = other-adds domains row told t in
-    let rest = others-add domains row (with_other domains row told t) ts in
+others-add : (domains : List Domain) (row : Row) (pairs_view : PairsView) (ts : List ℕ) → length (fold (with_other domains row) pairs_view ts).list ≤ length pairs_view.list + length ts
+others-add domains row pairs_view [] = omega arith
+others-add domains row pairs_view (t ∷ ts) =
+    let one = other-adds domains row pairs_view t in
+    let rest = others-add domains row (with_other domains row pairs_view t) ts in
     omega (arith, one, rest)
 
 -- ---- texts that are accepted
 
 -- wherever the text is, its lines are accepted and add at most `k` pairs
 abbrev Adds : List Domain → List ℕ → ℕ → Type 0
-Adds domains text k = (told : PairsView) (line : ℕ) (rest : List ℕ) → length told.list + k ≤ 4000000
-    → (next : PairsView) × (after : ℕ) × (length next.list ≤ length told.list + k)
-    × (after_lines (add_row domains) told line (lines_of (text ++ rest)) ≡ after_lines (add_row domains) next after (lines_of rest))
+Adds domains text k = (pairs_view : PairsView) (line : ℕ) (rest : List ℕ) → length pairs_view.list + k ≤ 4000000
+    → (next : PairsView) × (after : ℕ) × (length next.list ≤ length pairs_view.list + k)
+    × (after_lines (add_row domains) pairs_view line (lines_of (text ++ rest)) ≡ after_lines (add_row domains) next after (lines_of rest))
 
 adds-nothing : (domains : List Domain) (k : ℕ) → Adds domains [] k
-adds-nothing domains k told line rest h = (told, line, omega arith, refl)
+adds-nothing domains k pairs_view line rest h = (pairs_view, line, omega arith, refl)
 
 adds-both : (domains : List Domain) (x y : List ℕ) (j k : ℕ) → Adds domains x j → Adds domains y k → Adds domains (x ++ y) (j + k)
-adds-both domains x y j k first second told line rest h =
-    let a = first told line (y ++ rest) (omega (arith, h)) in
+adds-both domains x y j k first second pairs_view line rest h =
+    let a = first pairs_view line (y ++ rest) (omega (arith, h)) in
     let b = second a.0 a.1 rest (omega (arith, h, a.2)) in
-    (b.0, b.1, omega (arith, a.2, b.2), ap (λ t. after_lines (add_row domains) told line (lines_of t)) (append_assoc x y rest) ∙ (a.3 ∙ b.3))
+    (b.0, b.1, omega (arith, a.2, b.2), ap (λ t. after_lines (add_row domains) pairs_view line (lines_of t)) (append_assoc x y rest) ∙ (a.3 ∙ b.3))
 
 adds-more : (domains : List Domain) (x : List ℕ) (j k : ℕ) → j ≤ k → Adds domains x j → Adds domains x k
-adds-more domains x j k less first told line rest h =
-    let a = first told line rest (omega (arith, h, less)) in
+adds-more domains x j k less first pairs_view line rest h =
+    let a = first pairs_view line rest (omega (arith, h, less)) in
     (a.0, a.1, omega (arith, a.2, less), a.3)
 
 -- a line with this row
 adds-line : (domains : List Domain) (key : List ℕ) (n : ℕ) (ns : List ℕ) (row : Row) → IsKey key → AreSmall (n ∷ ns) → interference_row (key ∷ map decimal (n ∷ ns)) ≡ Ok row → Adds domains (key_line key (n ∷ ns)) (length row.others)
-adds-line domains key n ns row k small is told line rest h =
-    let next = fold (with_other domains row) told row.others in
-    let bound = others-add domains row told row.others in
+adds-line domains key n ns row k small is pairs_view line rest h =
+    let next = fold (with_other domains row) pairs_view row.others in
+    let bound = others-add domains row pairs_view row.others in
     let few : nat_lt 4000000 (length next.list) ≡ false = le-ltb 4000000 (length next.list) (omega (arith, h, bound)) in
-    let made : add_row domains told (key ∷ map decimal (n ∷ ns)) ≡ Ok next = rw (is, few) refl in
-    (next, line + 1, bound, line-adds (add_row domains) told next line key n ns rest k small made)
+    let made : add_row domains pairs_view (key ∷ map decimal (n ∷ ns)) ≡ Ok next = rw (is, few) refl in
+    (next, line + 1, bound, line-adds (add_row domains) pairs_view next line key n ns rest k small made)
 
 -- ---- rows
 
@@ -99,7 +99,7 @@ adjacent-line domains c d s h is = adds-line domains (codes "ADJ+1") c (d ∷ s 
 
 -- ---- a station
 
-link-lines : (domains : List Domain) (s : ℕ) (ts : List ℕ) (k : ℕ) → AreSmall (s ∷ ts) → length ts ≤ k → Adds domains (made_link_lines s ts) (4 * k)
+link-lines : (domains : List Domain) (s : ℕ) (ts : List ℕ) (k : ℕ) → AreSmall (s ∷ ts) → length ts ≤ k → Adds domains (generated_link_lines s ts) (4 * k)
 link-lines domains s [] k h few = adds-nothing domains (4 * k)
 link-lines domains s (t ∷ ts) k h few =
     let all : List ℕ = t ∷ ts in
@@ -117,7 +117,7 @@ link-lines domains s (t ∷ ts) k h few =
     (adds-both domains third (fourth ++ []) k (k + 0) c
     (adds-both domains fourth [] k 0 d (adds-nothing domains 0)))))
 
-adjacent-lines : (domains : List Domain) (s : ℕ) (adjacent : Bool) → s ≤ 4294967294 → Adds domains (made_adjacent_lines s adjacent) 3
+adjacent-lines : (domains : List Domain) (s : ℕ) (adjacent : Bool) → s ≤ 4294967294 → Adds domains (generated_adjacent_lines s adjacent) 3
 adjacent-lines domains s false h = adds-nothing domains 3
 adjacent-lines domains s true h =
     let first : List ℕ = key_line (codes "ADJ+1") (14 ∷ 15 ∷ s ∷ (s + 1) ∷ []) in
@@ -146,14 +146,14 @@ small-pass p a (suc n) h = elim (cases_Bool (p a)) [
   | inr f ↦ rw f (small-pass p (a + 1) n (omega (arith, h)))
 ]
 
-rows-at : (domains : List Domain) (g : Lcg) (s end : ℕ) → end ≤ 4096 → s ≤ 4096 → end ≤ s + 15 → Adds domains (made_rows_at g s end) 63
+rows-at : (domains : List Domain) (g : Lcg) (s end : ℕ) → end ≤ 4096 → s ≤ 4096 → end ≤ s + 15 → Adds domains (generated_rows_at g s end) 63
 rows-at domains g s end few low near =
     let p = λ (t : ℕ). draw_at g (t - (s + 1)) 2 == 1 in
-    let many : length (made_links g s end) ≤ end - s = few-pass p (s + 1) (end - s) in
-    let small : AreSmall (made_links g s end) = small-pass p (s + 1) (end - s) (omega (arith, few, low)) in
-    adds-both domains (made_link_lines s (made_links g s end)) (made_adjacent_lines s (made_adjacent g s end)) 60 3
-    (link-lines domains s (made_links g s end) 15 (omega (arith, low), small) (omega (arith, many, near)))
-    (adjacent-lines domains s (made_adjacent g s end) (omega (arith, low)))
+    let many : length (generated_links g s end) ≤ end - s = few-pass p (s + 1) (end - s) in
+    let small : AreSmall (generated_links g s end) = small-pass p (s + 1) (end - s) (omega (arith, few, low)) in
+    adds-both domains (generated_link_lines s (generated_links g s end)) (generated_adjacent_lines s (is_generated_adjacent g s end)) 60 3
+    (link-lines domains s (generated_links g s end) 15 (omega (arith, low), small) (omega (arith, many, near)))
+    (adjacent-lines domains s (is_generated_adjacent g s end) (omega (arith, low)))
 
 -- ---- all stations
 
@@ -163,19 +163,19 @@ ends-near size s h few =
     let near : min size (16 * ((s - 1) / 16 + 1)) ≤ 16 * ((s - 1) / 16 + 1) = omega arith in
     (omega (arith, low, few), omega (arith, near, h))
 
-all-rows : (domains : List Domain) (g : Lcg) (size a n : ℕ) → 1 ≤ a → a + n ≤ 4097 → size ≤ 4096 → Adds domains (flat_map (λ s. made_rows_at (behind_links g size (s - 1)) s (block_end size s)) (range_with_len a n)) (n * 63)
+all-rows : (domains : List Domain) (g : Lcg) (size a n : ℕ) → 1 ≤ a → a + n ≤ 4097 → size ≤ 4096 → Adds domains (flat_map (λ s. generated_rows_at (behind_links g size (s - 1)) s (block_end size s)) (range_with_len a n)) (n * 63)
 all-rows domains g size a zero low h few = adds-nothing domains 0
 all-rows domains g size a (suc n) low h few =
     let near = ends-near size a low few in
     let here = rows-at domains (behind_links g size (a - 1)) a (block_end size a) near.0 (omega (arith, h)) near.1 in
     let rest = all-rows domains g size (a + 1) n (omega (arith, low)) (omega (arith, h)) few in
-    adds-more domains (made_rows_at (behind_links g size (a - 1)) a (block_end size a) ++ flat_map (λ s. made_rows_at (behind_links g size (s - 1)) s (block_end size s)) (range_with_len (a + 1) n)) (63 + n * 63) (suc n * 63) (omega arith)
-    (adds-both domains (made_rows_at (behind_links g size (a - 1)) a (block_end size a)) (flat_map (λ s. made_rows_at (behind_links g size (s - 1)) s (block_end size s)) (range_with_len (a + 1) n)) 63 (n * 63) here rest)
+    adds-more domains (generated_rows_at (behind_links g size (a - 1)) a (block_end size a) ++ flat_map (λ s. generated_rows_at (behind_links g size (s - 1)) s (block_end size s)) (range_with_len (a + 1) n)) (63 + n * 63) (suc n * 63) (omega arith)
+    (adds-both domains (generated_rows_at (behind_links g size (a - 1)) a (block_end size a)) (flat_map (λ s. generated_rows_at (behind_links g size (s - 1)) s (block_end size s)) (range_with_len (a + 1) n)) 63 (n * 63) here rest)
 
 -- the rows are accepted over any domains
-pub rows-read : (domains : List Domain) (seed size : ℕ) → size ≤ 4096 → (told : PairsView) × (pairs_of (made_rows seed size) domains ≡ Ok told)
+pub rows-read : (domains : List Domain) (seed size : ℕ) → size ≤ 4096 → (pairs_view : PairsView) × (pairs_of (generated_rows seed size) domains ≡ Ok pairs_view)
 unfolding pairs_of after_lines lines_of
 rows-read domains seed size few =
     let g = generator_after (generator_of seed) (2 * size) in
     let all = all-rows domains g size 1 size (omega arith) (omega (arith, few)) few (record { list = []; self_pairs = 0; strangers = 0 }) 1 [] (omega (arith, few)) in
-    (all.0, ap (λ t. after_lines (add_row domains) (record { list = []; self_pairs = 0; strangers = 0 }) 1 (lines_of t)) (sym (append-nil (made_rows_from g size))) ∙ all.3)
+    (all.0, ap (λ t. after_lines (add_row domains) (record { list = []; self_pairs = 0; strangers = 0 }) 1 (lines_of t)) (sym (append-nil (generated_rows_from g size))) ∙ all.3)

@@ -14,11 +14,11 @@ use Rattle.pack_defs.specs.Lists.{is_ascending, is_in}
 use Rattle.pack_defs.specs.Prices.{declines, start_set}
 use Rattle.pack_defs.specs.Scenario.{AreDecrementsWithinLimits, IsStationWithinLimits, IsWithinLimits, IsWorkerWithinLimits, value_in, volume_in}
 use Rattle.scenario_json.specs.ScenarioOf.{scenario_of}
-use Rattle.scenario_json.specs.Written.{IsFileNumber, IsFileSeed, IsOfAFile}
+use Rattle.scenario_json.specs.Write.{IsFileNumber, IsFileSeed, IsWritableScenario}
 use Rattle.scenario_json.proofs.StationsAscend.{increasing-from_ascending}
 use Rattle.scenario_json.proofs.WrittenText.{written-reads}
 use Rattle.scenario_make.specs.Draws.{generator_of, draw_word_at}
-use Rattle.scenario_make.specs.MadeFiles.{made_facilities, made_scenario, made_scenario_text, made_station, made_value, made_volume, made_workers, scenario_with}
+use Rattle.scenario_make.specs.GeneratedFiles.{generated_facilities, generated_scenario, generated_scenario_text, generated_station, generated_value, generated_volume, generated_workers, scenario_with}
 
 -- ---- within the limits
 
@@ -30,7 +30,7 @@ range-ascends a (suc (suc n)) =
     let rest = range-ascends (a + 1) (suc n) in
     and_from (nat_lt a (a + 1)) (is_ascending (range_with_len (a + 1) (suc n))) less rest
 
-pub ids-made : (g : Lcg) (xs : List ℕ) → map (λ (x : Station). x.id) (map (made_station g) xs) ≡ xs
+pub ids-made : (g : Lcg) (xs : List ℕ) → map (λ (x : Station). x.id) (map (generated_station g) xs) ≡ xs
 ids-made g [] = refl
 ids-made g (x ∷ xs) = ap (λ ys. x ∷ ys) (ids-made g xs)
 
@@ -40,17 +40,17 @@ station-within s x y =
     let w = mod-lt y {m = 100 * (1 + x % 1000) + 1} (omega arith) in
     record { some_volume = omega arith; volume = omega (arith, v); value = omega (arith, v, w) }
 
-stations-within : (g : Lcg) (xs : List ℕ) → All IsStationWithinLimits (map (made_station g) xs)
+stations-within : (g : Lcg) (xs : List ℕ) → All IsStationWithinLimits (map (generated_station g) xs)
 stations-within g [] = All-nil IsStationWithinLimits
 stations-within g (x ∷ xs) =
-    All-cons IsStationWithinLimits (made_station g x) (map (made_station g) xs)
+    All-cons IsStationWithinLimits (generated_station g x) (map (generated_station g) xs)
     (station-within x (draw_word_at g (2 * (x - 1))) (draw_word_at g (2 * (x - 1) + 1))) (stations-within g xs)
 
-file-numbers : (g : Lcg) (a n : ℕ) → a + n ≤ 4294967296 → All IsFileNumber (map (made_station g) (range_with_len a n))
+file-numbers : (g : Lcg) (a n : ℕ) → a + n ≤ 4294967296 → All IsFileNumber (map (generated_station g) (range_with_len a n))
 file-numbers g a zero h = All-nil IsFileNumber
 file-numbers g a (suc n) h =
-    let here : IsFileNumber (made_station g a) = omega (arith, h) in
-    All-cons IsFileNumber (made_station g a) (map (made_station g) (range_with_len (a + 1) n)) here (file-numbers g (a + 1) n (omega (arith, h)))
+    let here : IsFileNumber (generated_station g a) = omega (arith, h) in
+    All-cons IsFileNumber (generated_station g a) (map (generated_station g) (range_with_len (a + 1) n)) here (file-numbers g (a + 1) n (omega (arith, h)))
 
 abbrev learner : Worker
 learner = record { kind = Cdcl; budget = 100000; seed = 0 }
@@ -58,7 +58,7 @@ learner = record { kind = Cdcl; budget = 100000; seed = 0 }
 abbrev walk : ℕ → Worker
 walk seed = record { kind = Walk; budget = 1000; seed = seed }
 
-both-workers : (P : Worker → Type 0) (seed : ℕ) → P learner → P (walk seed) → All P (made_workers seed)
+both-workers : (P : Worker → Type 0) (seed : ℕ) → P learner → P (walk seed) → All P (generated_workers seed)
 both-workers P seed one other = All-cons P learner (walk seed ∷ []) one (All-cons P (walk seed) [] other (All-nil P))
 
 learner-within : IsWorkerWithinLimits learner
@@ -67,10 +67,10 @@ learner-within = record { some_budget = omega arith; budget = omega arith }
 walk-within : (seed : ℕ) → IsWorkerWithinLimits (walk seed)
 walk-within seed = record { some_budget = omega arith; budget = omega arith }
 
-workers-within : (seed : ℕ) → All IsWorkerWithinLimits (made_workers seed)
+workers-within : (seed : ℕ) → All IsWorkerWithinLimits (generated_workers seed)
 workers-within seed = both-workers IsWorkerWithinLimits seed learner-within (walk-within seed)
 
-file-seeds : (seed : ℕ) → seed ≤ 18446744073709551615 → All IsFileSeed (made_workers seed)
+file-seeds : (seed : ℕ) → seed ≤ 18446744073709551615 → All IsFileSeed (generated_workers seed)
 file-seeds seed h = both-workers IsFileSeed seed (omega arith) h
 
 decrements-within : AreDecrementsWithinLimits 100 (replicate 10 10)
@@ -80,11 +80,11 @@ decrements-within = record {
   falls = omega arith;
 }
 
-pub made-within : (seed size : ℕ) → size ≤ 4096 → IsWithinLimits (made_scenario seed size)
+pub made-within : (seed size : ℕ) → size ≤ 4096 → IsWithinLimits (generated_scenario seed size)
 unfolding scenario_with
 made-within seed size h =
     let g = generator_of seed in
-    let many = length-map-range_with_len (made_station g) 1 size in
+    let many = length-map-range_with_len (generated_station g) 1 size in
     record {
       least_top = omega arith;
       top = omega arith;
@@ -93,15 +93,15 @@ made-within seed size h =
       version = refl;
       fall = decrements-within;
       stations = omega (arith, many, h);
-      ascend = rw (ids-made g (made_facilities size)) (increasing-from_ascending (made_facilities size) (range-ascends 1 size));
-      each_station = stations-within g (made_facilities size);
+      ascend = rw (ids-made g (generated_facilities size)) (increasing-from_ascending (generated_facilities size) (range-ascends 1 size));
+      each_station = stations-within g (generated_facilities size);
       some_worker = omega arith;
       workers = omega arith;
       each_worker = workers-within seed;
       prover = refl;
     }
 
-made-of-a-file : (seed size : ℕ) → seed ≤ 18446744073709551615 → size ≤ 4096 → IsOfAFile (made_scenario seed size)
+made-of-a-file : (seed size : ℕ) → seed ≤ 18446744073709551615 → size ≤ 4096 → IsWritableScenario (generated_scenario seed size)
 unfolding scenario_with
 made-of-a-file seed size few h = record {
   limits = made-within seed size h;
@@ -110,22 +110,22 @@ made-of-a-file seed size few h = record {
   by_value = refl;
 }
 
-pub made-reads : (seed size : ℕ) → seed ≤ 18446744073709551615 → size ≤ 4096 → scenario_of (made_scenario_text seed size) ≡ Ok (made_scenario seed size)
-made-reads seed size few h = written-reads (made_scenario seed size) (made-of-a-file seed size few h)
+pub made-reads : (seed size : ℕ) → seed ≤ 18446744073709551615 → size ≤ 4096 → scenario_of (generated_scenario_text seed size) ≡ Ok (generated_scenario seed size)
+made-reads seed size few h = written-reads (generated_scenario seed size) (made-of-a-file seed size few h)
 
 -- ---- no station starts
 
-value-at : (g : Lcg) (xs : List ℕ) (s : ℕ) → is_in xs s ≡ true → value_in (map (made_station g) xs) s ≡ Some (made_value g s)
+value-at : (g : Lcg) (xs : List ℕ) (s : ℕ) → is_in xs s ≡ true → value_in (map (generated_station g) xs) s ≡ Some (generated_value g s)
 value-at g [] s h = cc h
 value-at g (x ∷ xs) s h = elim (cases_Bool (x == s)) [
-  | inl t ↦ rw t (ap (λ k. Some (made_value g k)) (eqb-true x s t))
+  | inl t ↦ rw t (ap (λ k. Some (generated_value g k)) (eqb-true x s t))
   | inr f ↦ rw f (value-at g xs s (rw f at h))
 ]
 
-volume-at : (g : Lcg) (xs : List ℕ) (s : ℕ) → is_in xs s ≡ true → volume_in (map (made_station g) xs) s ≡ made_volume g s
+volume-at : (g : Lcg) (xs : List ℕ) (s : ℕ) → is_in xs s ≡ true → volume_in (map (generated_station g) xs) s ≡ generated_volume g s
 volume-at g [] s h = cc h
 volume-at g (x ∷ xs) s h = elim (cases_Bool (x == s)) [
-  | inl t ↦ rw t (ap (made_volume g) (eqb-true x s t))
+  | inl t ↦ rw t (ap (generated_volume g) (eqb-true x s t))
   | inr f ↦ rw f (volume-at g xs s (rw f at h))
 ]
 
@@ -135,9 +135,9 @@ value-low x v =
     let w = mod-lt x {m = 100 * v + 1} (omega arith) in
     le-ltb (100 * v) (x % (100 * v + 1)) (omega (arith, w))
 
-takes-part : (seed : ℕ) (g : Lcg) (xs : List ℕ) (s : ℕ) → is_in xs s ≡ true → declines (scenario_with seed (map (made_station g) xs)) s 0 ≡ false
+takes-part : (seed : ℕ) (g : Lcg) (xs : List ℕ) (s : ℕ) → is_in xs s ≡ true → declines (scenario_with seed (map (generated_station g) xs)) s 0 ≡ false
 unfolding scenario_with
-takes-part seed g xs s h = rw (value-at g xs s h, volume-at g xs s h) (value-low (draw_word_at g (2 * (s - 1) + 1)) (made_volume g s))
+takes-part seed g xs s h = rw (value-at g xs s h, volume-at g xs s h) (value-low (draw_word_at g (2 * (s - 1) + 1)) (generated_volume g s))
 
 none-passes : (p : ℕ → Bool) (xs : List ℕ) → ((s : ℕ) → is_in xs s ≡ true → p s ≡ false) → filter p xs ≡ []
 none-passes p [] h = refl
@@ -146,12 +146,12 @@ none-passes p (x ∷ xs) h =
     let here : is_in (x ∷ xs) x ≡ true = rw same refl in
     rw (h x here) (none-passes p xs (λ s i. h s (or_right (x == s) (is_in xs s) i)))
 
-pub made-ids : (seed size : ℕ) → map (λ (x : Station). x.id) (made_scenario seed size).stations ≡ made_facilities size
+pub made-ids : (seed size : ℕ) → map (λ (x : Station). x.id) (generated_scenario seed size).stations ≡ generated_facilities size
 unfolding scenario_with
-made-ids seed size = ids-made (generator_of seed) (made_facilities size)
+made-ids seed size = ids-made (generator_of seed) (generated_facilities size)
 
-pub none-starts : (seed size : ℕ) → start_set (made_scenario seed size) ≡ []
+pub none-starts : (seed size : ℕ) → start_set (generated_scenario seed size) ≡ []
 none-starts seed size =
-    let sc = made_scenario seed size in
+    let sc = generated_scenario seed size in
     ap (filter (λ s. declines sc s 0)) (made-ids seed size)
-    ∙ none-passes (λ s. declines sc s 0) (made_facilities size) (λ s i. takes-part seed (generator_of seed) (made_facilities size) s i)
+    ∙ none-passes (λ s. declines sc s 0) (generated_facilities size) (λ s i. takes-part seed (generator_of seed) (generated_facilities size) s i)

@@ -1,3 +1,3 @@
 pub mod Draws
-pub mod MadeFiles
+pub mod GeneratedFiles
 pub mod Accepted

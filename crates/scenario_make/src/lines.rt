@@ -1,14 +1,14 @@
 //! The lines of the two constraint files, each appended to a text.
 
 ghost use Rattle.std.specs.Prelude.{◌≡◌, ◌++◌, OnOk};
-ghost use Rattle.scenario_make.specs.MadeFiles.{behind_commas, key_line};
+ghost use Rattle.scenario_make.specs.GeneratedFiles.{comma_prefixed, key_line};
 
 use itoa::Buffer;
 use std::alloc::AllocError as NoMemory;
 
 // Appends numbers, each after a comma.
 fn push_numbers(text: &mut Vec<u8>, numbers: &[u32]) -> Result<(), NoMemory>
-    ensures { OnOk result (text.new.items ≡ text.old.items ++ behind_commas numbers.now) }
+    ensures { OnOk result (text.new.items ≡ text.old.items ++ comma_prefixed numbers.now) }
 {
     for n in numbers {
         let mut buffer = Buffer::new();

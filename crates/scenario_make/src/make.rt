@@ -1,9 +1,9 @@
 //! The files of a generated auction.
 
 ghost use Rattle.std.specs.Prelude.{◌≡◌, ◌≤◌, IfOk};
-ghost use Rattle.scenario_make.specs.declared.limits.TheConstants.{MOST_MADE};
+ghost use Rattle.scenario_make.specs.declared.limits.TheConstants.{MOST_GENERATED};
 ghost use Rattle.scenario_make.specs.Accepted.{AreAccepted};
-ghost use Rattle.scenario_make.specs.MadeFiles.{AreMade, made_domains, made_workers, scenario_with};
+ghost use Rattle.scenario_make.specs.GeneratedFiles.{AreGenerated, generated_domains, generated_workers, scenario_with};
 
 use crate::lines::push_line;
 use crate::rows::draw_rows;
@@ -30,8 +30,8 @@ pub struct Made {
 
 // Returns the domain file.
 fn domain_file(alloc: Global, size: u32) -> Result<Vec<u8>, NoMemory>
-    requires { size ≤ MOST_MADE }
-    ensures { IfOk result (λ v. v.items ≡ made_domains size) }
+    requires { size ≤ MOST_GENERATED }
+    ensures { IfOk result (λ v. v.items ≡ generated_domains size) }
 {
     let mut text = Vec::new(alloc);
     for i in 0..size {
@@ -42,7 +42,7 @@ fn domain_file(alloc: Global, size: u32) -> Result<Vec<u8>, NoMemory>
 
 // Returns a worker that learns, and one that walks with the seed of the auction.
 fn workers(alloc: Global, seed: u64) -> Result<Vec<Worker>, NoMemory>
-    ensures { IfOk result (λ v. v.items ≡ made_workers seed) }
+    ensures { IfOk result (λ v. v.items ≡ generated_workers seed) }
 {
     let learner = Worker {
         kind: Kind::Cdcl,
@@ -58,7 +58,7 @@ fn workers(alloc: Global, seed: u64) -> Result<Vec<Worker>, NoMemory>
 }
 
 // Returns the scenario of these stations.
-#[tactic(auto, unfolding(crate::specs::MadeFiles::scenario_with))]
+#[tactic(auto, unfolding(crate::specs::GeneratedFiles::scenario_with))]
 fn scenario_with(alloc: Global, seed: u64, stations: Vec<Station>) -> Result<Scenario, NoMemory>
     ensures { IfOk result (λ sc. sc ≡ scenario_with seed stations.items) }
 {
@@ -75,8 +75,8 @@ fn scenario_with(alloc: Global, seed: u64, stations: Vec<Station>) -> Result<Sce
 
 // Returns the three files. The stations are drawn first and the interference after them.
 fn draw_files(alloc: Global, seed: u64, size: u32) -> Result<Made, NoMemory>
-    requires { size ≤ MOST_MADE }
-    ensures { IfOk result (λ made. AreMade seed size made.domains.items made.rows.items made.scenario.items) }
+    requires { size ≤ MOST_GENERATED }
+    ensures { IfOk result (λ made. AreGenerated seed size made.domains.items made.rows.items made.scenario.items) }
 {
     let domains = domain_file(alloc, size)?;
     let mut words = Lcg64Xsh32::new(seed, 0);
@@ -96,8 +96,8 @@ fn draw_files(alloc: Global, seed: u64, size: u32) -> Result<Made, NoMemory>
 /// runs out.
 pub fn make(alloc: Global, seed: u64, size: u32) -> Result<Made, NoMemory>
     requires some { 1 ≤ size }
-    requires most { size ≤ MOST_MADE }
-    ensures files { IfOk result (λ made. AreMade seed size made.domains.items made.rows.items made.scenario.items) }
+    requires most { size ≤ MOST_GENERATED }
+    ensures files { IfOk result (λ made. AreGenerated seed size made.domains.items made.rows.items made.scenario.items) }
     ensures accepted { IfOk result (λ made. AreAccepted made.domains.items made.rows.items made.scenario.items) }
 {
     let made = draw_files(alloc, seed, size)?;

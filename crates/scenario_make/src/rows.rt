@@ -2,9 +2,9 @@
 
 ghost use Rattle.std.specs.Prelude.{◌≡◌, ◌≤◌, ◌<◌, ◌-◌, ◌%◌, ◌==◌, ◌&&◌, ◌++◌, nat_lt, if◌then◌else◌, IfOk, OnOk};
 ghost use Rattle.rand_pcg.specs.Pcg.{pcg32};
-ghost use Rattle.scenario_make.specs.declared.limits.TheConstants.{MOST_MADE};
+ghost use Rattle.scenario_make.specs.declared.limits.TheConstants.{MOST_GENERATED};
 ghost use Rattle.scenario_make.specs.Draws.{generator_after};
-ghost use Rattle.scenario_make.specs.MadeFiles.{block_end, link_draws, made_adjacent_lines, made_link_lines, made_links, made_rows_at, made_rows_from};
+ghost use Rattle.scenario_make.specs.GeneratedFiles.{block_end, link_draws, generated_adjacent_lines, generated_link_lines, generated_links, generated_rows_at, generated_rows_from};
 
 use crate::draws::draw;
 use crate::lines::push_line;
@@ -18,7 +18,7 @@ const CHANNELS: [u32; 4] = [14, 15, 16, 17];
 fn block_end(size: u32, station: u32) -> u32
     requires some { 1 ≤ station }
     requires within { station ≤ size }
-    requires few { size ≤ MOST_MADE }
+    requires few { size ≤ MOST_GENERATED }
     ensures value { result ≡ block_end size station }
     ensures least { station ≤ result }
     ensures most { result ≤ size }
@@ -34,7 +34,7 @@ fn draw_links(
     end: u32,
 ) -> Result<Vec<u32>, NoMemory>
     requires { station ≤ end }
-    ensures drawn { IfOk result (λ v. v.items ≡ made_links words.old station end) }
+    ensures drawn { IfOk result (λ v. v.items ≡ generated_links words.old station end) }
     ensures next { OnOk result (words.new ≡ generator_after words.old (end - station)) }
 {
     let mut links = Vec::new(alloc);
@@ -60,7 +60,7 @@ fn draw_adjacent(words: &mut Lcg64Xsh32, station: u32, end: u32) -> bool
 
 // Appends the lines of a station and those that it interferes with on the same channel.
 fn push_link_lines(text: &mut Vec<u8>, station: u32, links: &[u32]) -> Result<(), NoMemory>
-    ensures { OnOk result (text.new.items ≡ text.old.items ++ made_link_lines station links.now) }
+    ensures { OnOk result (text.new.items ≡ text.old.items ++ generated_link_lines station links.now) }
 {
     if links.is_empty() {
         return Ok(());
@@ -74,7 +74,7 @@ fn push_link_lines(text: &mut Vec<u8>, station: u32, links: &[u32]) -> Result<()
 // Appends the lines of a station and the next one, if they interfere on adjacent channels.
 fn push_adjacent_lines(text: &mut Vec<u8>, station: u32, adjacent: bool) -> Result<(), NoMemory>
     requires { station < 4294967295 }
-    ensures { OnOk result (text.new.items ≡ text.old.items ++ made_adjacent_lines station adjacent) }
+    ensures { OnOk result (text.new.items ≡ text.old.items ++ generated_adjacent_lines station adjacent) }
 {
     if !adjacent {
         return Ok(());
@@ -94,8 +94,8 @@ fn push_rows_at(
     end: u32,
 ) -> Result<(), NoMemory>
     requires within { station ≤ end }
-    requires few { end ≤ MOST_MADE }
-    ensures written { OnOk result (text.new.items ≡ text.old.items ++ made_rows_at words.old station end) }
+    requires few { end ≤ MOST_GENERATED }
+    ensures written { OnOk result (text.new.items ≡ text.old.items ++ generated_rows_at words.old station end) }
     ensures next { OnOk result (words.new ≡ generator_after words.old (link_draws station end)) }
 {
     let links = draw_links(alloc, words, station, end)?;
@@ -111,8 +111,8 @@ pub(crate) fn draw_rows(
     words: &mut Lcg64Xsh32,
     size: u32,
 ) -> Result<Vec<u8>, NoMemory>
-    requires { size ≤ MOST_MADE }
-    ensures { IfOk result (λ v. v.items ≡ made_rows_from words.old size) }
+    requires { size ≤ MOST_GENERATED }
+    ensures { IfOk result (λ v. v.items ≡ generated_rows_from words.old size) }
 {
     let mut text = Vec::new(alloc);
     for i in 0..size {

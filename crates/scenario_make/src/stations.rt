@@ -2,9 +2,9 @@
 
 ghost use Rattle.std.specs.Prelude.{◌≡◌, ◌≤◌, ◌+◌, ◌*◌, ◌%◌, IfOk, OnOk, map};
 ghost use Rattle.rand_pcg.specs.Pcg.{pcg32};
-ghost use Rattle.scenario_make.specs.declared.limits.TheConstants.{MOST_MADE};
+ghost use Rattle.scenario_make.specs.declared.limits.TheConstants.{MOST_GENERATED};
 ghost use Rattle.scenario_make.specs.Draws.{generator_after};
-ghost use Rattle.scenario_make.specs.MadeFiles.{made_facilities, made_station};
+ghost use Rattle.scenario_make.specs.GeneratedFiles.{generated_facilities, generated_station};
 
 use crate::draws::draw;
 use pack_defs::station::Station;
@@ -36,8 +36,8 @@ pub(crate) fn draw_stations(
     words: &mut Lcg64Xsh32,
     size: u32,
 ) -> Result<Vec<Station>, NoMemory>
-    requires { size ≤ MOST_MADE }
-    ensures drawn { IfOk result (λ v. v.items ≡ map (made_station words.old) (made_facilities size)) }
+    requires { size ≤ MOST_GENERATED }
+    ensures drawn { IfOk result (λ v. v.items ≡ map (generated_station words.old) (generated_facilities size)) }
     ensures next { OnOk result (words.new ≡ generator_after words.old (2 * size)) }
 {
     let mut stations = Vec::with_capacity(alloc, size as usize)?;

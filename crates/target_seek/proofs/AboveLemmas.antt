@@ -10,7 +10,7 @@ use Rattle.pack_defs.specs.Prices.{start_set}
 use Rattle.pack_defs.proofs.BookLemmas.{channels_in-cut, channels_in-cut_none}
 use Rattle.pack_defs.proofs.FitsLaws.{fits-gives, fits-from}
 use Rattle.pack_defs.proofs.Members.{Contains-nil, Contains-filter, Contains-from_filter, is_in-from, list_any-from, list_any-gives}
-use Rattle.target_seek.specs.Tops.{SeekBase, book_at, fits_at}
+use Rattle.target_seek.specs.TopChannels.{SeekBase, book_at, fits_at}
 
 -- What the four tests of a pair at two entries, in one order, say of the pair.
 all_four : (p : Pair) (x y : ℕ × ℕ) → (eqb p.f x.0 && (eqb p.a x.1 && (eqb p.g y.0 && eqb p.b y.1))) ≡ true → (p.f ≡ x.0) × (p.a ≡ x.1) × (p.g ≡ y.0) × (p.b ≡ y.1)

@@ -3,7 +3,7 @@ use Rattle.std.proofs.Common.{◌≡◌, ℕ, ◌<◌, ◌≤◌, Bool, true, fa
 use Rattle.std.specs.List.{list_any, flat_map}
 use Rattle.std.proofs.lemmas.Bool.{le-leb, lt-leb}
 use Rattle.pack_defs.specs.Packing.{assignments, fits, is_apart}
-use Rattle.target_seek.specs.Tops.{book_at, fits_at}
+use Rattle.target_seek.specs.TopChannels.{book_at, fits_at}
 use Rattle.target_seek.specs.Examples.{one_station}
 
 one_station-is : (channel top : ℕ) → fits_at (one_station channel) top ≡ leb channel top

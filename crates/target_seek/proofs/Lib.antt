@@ -1,3 +1,3 @@
 pub mod AboveLemmas
-pub mod HalvingLemmas
+pub mod BinarySearchLemmas
 pub mod ExampleLemmas

@@ -1,7 +1,7 @@
 -- A small auction: one station, which may use only one channel.
 use Rattle.std.specs.Prelude.{ℕ, [], ◌∷◌, None}
 use Rattle.pack_defs.specs.declared.fall.Fall.TheVariants.{Listed}
-use Rattle.target_seek.specs.Tops.{SeekBase}
+use Rattle.target_seek.specs.TopChannels.{SeekBase}
 
 -- A station without a value, which therefore starts on air, and may use only this channel.
 unfoldable pub one_station : ℕ → SeekBase

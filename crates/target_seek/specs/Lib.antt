@@ -1,4 +1,4 @@
-pub mod Tops
-pub mod Halving
+pub mod TopChannels
+pub mod BinarySearch
 pub mod Searching
 pub mod Examples

@@ -6,7 +6,7 @@
 //!
 //! - `seek`: the search with a test given as a trait.
 //! - `search`: the search that its caller drives.
-//! - `sought`: what a search found.
+//! - `search_result`: what a search found.
 //! - `top_test`: the test of a top channel.
 //! - `laws`: why a binary search is right.
 #![tactic(auto)]

@@ -3,15 +3,15 @@
 
 ghost use Rattle.std.specs.Prelude.{◌≡◌, ◌≤◌, ◌<◌, ◌+◌, ◌++◌, ◌∷◌, ℕ, [], IsSome, List, MatchOption, None, Some, length, ⊤};
 ghost use Rattle.pack_defs.specs.declared.limits.TheConstants.{GREATEST_CHANNEL, LEAST_CHANNEL};
-ghost use Rattle.target_seek.specs.Halving.{all_left, found_at, left_after, middle_of, next_at, next_of, stage_after, tops_left};
+ghost use Rattle.target_seek.specs.BinarySearch.{full_range, found_at, range_after, middle_of, next_at, next_of, stage_after, questions_left};
 ghost use Rattle.target_seek.specs.Searching.{IsSearching};
-ghost use Rattle.target_seek.specs.Tops.{AreTrue, AskedTop, IsSought, IsTruth, SeekBase};
+ghost use Rattle.target_seek.specs.TopChannels.{AreTrue, AskedTop, IsSought, IsTruth, SeekBase};
 
 use crate::sought::Sought;
 use crate::top_test::TopAnswer;
 
 /// A search for the least top channel up to which the start set fits. While `next` returns a top, the caller tests it
-/// and gives the answer to `told`; then `found` returns the result. The last top is tested first, then the middle of
+/// and gives the answer to `with_top_answer`; then `found` returns the result. The last top is tested first, then the middle of
 /// the tops that are left, at most seven in all. A top with an undecided test counts as one at which the set does not
 /// fit.
 #[derive(Clone, Copy)]
@@ -40,17 +40,17 @@ impl TopSearch {
     {
         match self.stage {
             Stage::Unasked { last, .. } => Some(last),
-            Stage::Halving(left) if left.low < left.high => Some(left.middle()),
-            Stage::Halving(_) | Stage::LastIsUnfit | Stage::LastIsOpen => None,
+            Stage::BinarySearch(left) if left.low < left.high => Some(left.middle()),
+            Stage::BinarySearch(_) | Stage::LastIsUnfit | Stage::LastIsOpen => None,
         }
     }
 
     /// Returns the search after this answer about its next top.
-    pub fn told(self, answer: TopAnswer) -> TopSearch
+    pub fn with_top_answer(self, answer: TopAnswer) -> TopSearch
         requires { IsSome (next_of self) }
         ensures searching { (first last : ℕ) (asked : List AskedTop) (top : ℕ) → IsSearching first last asked self → next_of self ≡ Some top →
             IsSearching first last (asked ++ record { top = top; answer = answer } ∷ []) result }
-        ensures nearer { tops_left result < tops_left self }
+        ensures nearer { questions_left result < questions_left self }
     {
         TopSearch {
             stage: self.stage.after(answer),
@@ -69,7 +69,7 @@ impl TopSearch {
             Stage::Unasked { .. } => unreachable!(),
             Stage::LastIsUnfit => Sought::NoneFits,
             Stage::LastIsOpen => Sought::LastOpen,
-            Stage::Halving(left) => left.sought(),
+            Stage::BinarySearch(left) => left.search_result(),
         }
     }
 }
@@ -84,7 +84,7 @@ enum Stage {
     // The test of the last top is undecided.
     LastIsOpen,
     // The set fits up to the last top, and these tops are left.
-    Halving(Left),
+    BinarySearch(TopRange),
 }
 
 impl Stage {
@@ -95,11 +95,11 @@ impl Stage {
     {
         match self {
             Stage::Unasked { first, last } => match answer {
-                TopAnswer::Fits => Stage::Halving(Left::all(first, last)),
+                TopAnswer::Fits => Stage::BinarySearch(TopRange::all(first, last)),
                 TopAnswer::Unfit => Stage::LastIsUnfit,
                 TopAnswer::Open => Stage::LastIsOpen,
             },
-            Stage::Halving(left) => Stage::Halving(left.after(left.middle(), answer)),
+            Stage::BinarySearch(left) => Stage::BinarySearch(left.after(left.middle(), answer)),
             Stage::LastIsUnfit | Stage::LastIsOpen => unreachable!(),
         }
     }
@@ -107,7 +107,7 @@ impl Stage {
 
 // The answer about the top below the lowest one that is left.
 #[derive(Clone, Copy)]
-enum Below {
+enum AnswerBelow {
     // The lowest top that is left is the first of all.
     Nothing,
     Unfit,
@@ -116,21 +116,21 @@ enum Below {
 
 // The tops that are left. The start set fits at the highest, and is not known to fit below the lowest.
 #[derive(Clone, Copy)]
-struct Left {
+struct TopRange {
     low: u8,
     high: u8,
-    below: Below,
+    below: AnswerBelow,
 }
 
-impl Left {
+impl TopRange {
     // Returns all tops from the first to the last.
-    fn all(first: u8, last: u8) -> Left
-        ensures { result ≡ all_left first last }
+    fn all(first: u8, last: u8) -> TopRange
+        ensures { result ≡ full_range first last }
     {
-        Left {
+        TopRange {
             low: first,
             high: last,
-            below: Below::Nothing,
+            below: AnswerBelow::Nothing,
         }
     }
 
@@ -143,23 +143,23 @@ impl Left {
     }
 
     // Returns the tops that are left after this answer about one of them.
-    fn after(self, top: u8, answer: TopAnswer) -> Left
+    fn after(self, top: u8, answer: TopAnswer) -> TopRange
         requires { top < self.high }
-        ensures { result ≡ left_after self top answer }
+        ensures { result ≡ range_after self top answer }
     {
         match answer {
-            TopAnswer::Fits => Left { high: top, ..self },
-            TopAnswer::Unfit => self.above(top, Below::Unfit),
-            TopAnswer::Open => self.above(top, Below::Open),
+            TopAnswer::Fits => TopRange { high: top, ..self },
+            TopAnswer::Unfit => self.above(top, AnswerBelow::Unfit),
+            TopAnswer::Open => self.above(top, AnswerBelow::Open),
         }
     }
 
     // Returns the tops above this one, for which `below` is the answer.
-    fn above(self, top: u8, below: Below) -> Left
+    fn above(self, top: u8, below: AnswerBelow) -> TopRange
         requires { top < self.high }
         ensures { result ≡ record { low = top + 1; high = self.high; below = below } }
     {
-        Left {
+        TopRange {
             low: top + 1,
             high: self.high,
             below,
@@ -167,13 +167,13 @@ impl Left {
     }
 
     // Returns the result, if one top is left.
-    fn sought(self) -> Sought
+    fn search_result(self) -> Sought
         ensures { result ≡ found_at self.high self.below }
     {
         let top = self.high;
         match self.below {
-            Below::Nothing | Below::Unfit => Sought::Least { top },
-            Below::Open => Sought::AboveOpen { top },
+            AnswerBelow::Nothing | AnswerBelow::Unfit => Sought::Least { top },
+            AnswerBelow::Open => Sought::AboveOpen { top },
         }
     }
 }

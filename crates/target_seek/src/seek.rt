@@ -2,8 +2,8 @@
 
 ghost use Rattle.std.specs.Prelude.{◌≡◌, ◌≤◌, IfOk};
 ghost use Rattle.pack_defs.specs.declared.limits.TheConstants.{GREATEST_CHANNEL, LEAST_CHANNEL};
-ghost use Rattle.target_seek.specs.Searching.{HasSearched};
-ghost use Rattle.target_seek.specs.Tops.{IsTruth};
+ghost use Rattle.target_seek.specs.Searching.{IsSearched};
+ghost use Rattle.target_seek.specs.TopChannels.{IsTruth};
 
 use crate::search::TopSearch;
 use crate::sought::Sought;
@@ -23,13 +23,13 @@ pub fn seek_top<T: TopTest>(first: u8, last: u8, test: &mut T) -> Result<Sought,
     requires ordered { first ≤ last }
     requires most { last ≤ GREATEST_CHANNEL }
     ensures base { T.base test.new ≡ T.base test.old }
-    ensures asked { HasSearched first last (T.asked test.old) (T.asked test.new) result }
+    ensures asked { IsSearched first last (T.asked test.old) (T.asked test.new) result }
     ensures truth { IfOk result (IsTruth (T.base test.old) first last) }
 {
     let mut search = TopSearch::new(first, last);
     while let Some(top) = search.next() {
         let answer = test.ask(top)?;
-        search = search.told(answer);
+        search = search.with_top_answer(answer);
     }
     Ok(search.found())
 }

@@ -2,7 +2,7 @@
 
 ghost use Rattle.std.specs.Prelude.{◌≡◌, ◌≤◌, ◌++◌, ◌∷◌, [], IfErr, IfOk};
 ghost use Rattle.pack_defs.specs.declared.limits.TheConstants.{GREATEST_CHANNEL, LEAST_CHANNEL};
-ghost use Rattle.target_seek.specs.Tops.{IsTrueAt};
+ghost use Rattle.target_seek.specs.TopChannels.{IsTrueAt};
 
 use std::alloc::AllocError as NoMemory;
 
@@ -20,7 +20,7 @@ pub enum TopAnswer {
 /// Tests whether the start set fits up to a top channel.
 pub trait TopTest {
     ghost use Rattle.std.specs.Prelude.{List};
-    ghost use Rattle.target_seek.specs.Tops.{AskedTop, SeekBase};
+    ghost use Rattle.target_seek.specs.TopChannels.{AskedTop, SeekBase};
 
     /// All that the start set and its fitting depend on, except the top channel.
     ghost base: { Self → SeekBase };

@@ -1,2 +1,2 @@
 pub mod RuleLemmas
-pub mod TurnLemmas
+pub mod RoundOrderLemmas

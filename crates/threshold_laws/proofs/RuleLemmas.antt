@@ -8,7 +8,7 @@ use Rattle.pack_defs.specs.declared.order.Order.{Order}
 use Rattle.pack_defs.specs.declared.scenario.Scenario.{Scenario}
 use Rattle.pack_defs.specs.Scenario.{StationsAscend, facilities}
 use Rattle.pack_defs.specs.Prices.{declines, last_round, prices}
-use Rattle.pack_defs.specs.ClockRule.{ClockTest, ClockState, tests_of, bidders_in_turn, opening_state, asked_set, exits, after_tests, clock_rule}
+use Rattle.pack_defs.specs.ClockRule.{ClockTest, ClockState, tests_of, bidders_in_order, opening_state, asked_set, exits, after_tests, clock_rule}
 use Rattle.pack_defs.proofs.Chains.{ascending-filter}
 use Rattle.pack_defs.proofs.FitsLaws.{fits-from}
 use Rattle.pack_defs.proofs.PriceLaws.{prices_rounds}
@@ -49,7 +49,7 @@ tests_in round xs = map (λ s. record { round = round; station = s }) xs
 -- ---- all rounds
 
 -- Before the first round.
-pub opened : (sc : Scenario) (book : BookView) (order : Order) (xs : List ℕ) (n : ℕ) (opening : ClockState) → xs ≡ bidders_in_turn sc order → n ≡ length (prices sc) → opening ≡ opening_state sc → after_tests sc book [] (tests_of xs 1 (n + 1 - 1)) opening ≡ clock_rule sc book order []
+pub opened : (sc : Scenario) (book : BookView) (order : Order) (xs : List ℕ) (n : ℕ) (opening : ClockState) → xs ≡ bidders_in_order sc order → n ≡ length (prices sc) → opening ≡ opening_state sc → after_tests sc book [] (tests_of xs 1 (n + 1 - 1)) opening ≡ clock_rule sc book order []
 unfolding clock_rule
 opened sc book order xs n opening bidders rounds is =
     let all : n + 1 - 1 ≡ last_round sc = omega (arith, rounds, prices_rounds sc) in

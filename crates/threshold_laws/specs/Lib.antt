@@ -1,1 +1,1 @@
-pub mod Freezing
+pub mod Clock

@@ -2,19 +2,19 @@
 
 ghost use Rattle.std.specs.Prelude.{◌≡◌, ◌==◌, [], IfOk};
 ghost use Rattle.pack_defs.specs.ClockRule.{goes_on_air, is_active, is_frozen, is_on_air};
-ghost use Rattle.threshold_laws.specs.Freezing.{freezes_at};
+ghost use Rattle.threshold_laws.specs.Clock.{freezes_at};
 
 use std::alloc::{AllocError as NoMemory, Global};
 use std::marker::Model;
 
 /// A station on air, and the round in which it went on air; 0 for the start.
 #[derive(Debug, Drop)]
-pub(crate) struct Aired {
+pub(crate) struct OnAirStation {
     pub(crate) station: u32,
     pub(crate) round: usize,
 }
 
-impl Model for Aired {
+impl Model for OnAirStation {
     ghost use Rattle.pack_defs.specs.ClockRule.{OnAirSince};
 
     ghost Value = { OnAirSince };
@@ -22,7 +22,7 @@ impl Model for Aired {
     ghost view = { λ x. record { station = x.station; round = x.round } };
 }
 
-impl Aired {
+impl OnAirStation {
     // Checks whether the entry is of this station.
     fn is_of(&self, station: u32) -> bool
         ensures { result ≡ (self.now.station == station) }
@@ -59,7 +59,7 @@ impl Bought {
 /// The state of the clock between two tests, in three plain lists.
 #[derive(Debug, Drop)]
 pub(crate) struct PlainClock {
-    on_air: Vec<Aired>,
+    on_air: Vec<OnAirStation>,
     frozen: Vec<Bought>,
     active: Vec<u32>,
 }
@@ -74,7 +74,7 @@ impl Model for PlainClock {
 
 impl PlainClock {
     /// Returns the clock before its first round, with these stations on air and these active.
-    pub(crate) fn open(alloc: Global, on_air: Vec<Aired>, active: Vec<u32>) -> PlainClock
+    pub(crate) fn open(alloc: Global, on_air: Vec<OnAirStation>, active: Vec<u32>) -> PlainClock
         ensures { result ≡ record { on_air = on_air.items; frozen = []; active = active.items } }
     {
         PlainClock {
@@ -109,10 +109,10 @@ impl PlainClock {
     ///
     /// # Errors
     /// Fails only if memory runs out.
-    pub(crate) fn air(&mut self, station: u32, round: usize) -> Result<(), NoMemory>
+    pub(crate) fn put_on_air(&mut self, station: u32, round: usize) -> Result<(), NoMemory>
         ensures { IfOk result (λ _. self.new ≡ goes_on_air self.old (record { round = round; station = station })) }
     {
-        self.on_air.push(Aired { station, round })?;
+        self.on_air.push(OnAirStation { station, round })?;
         self.active.retain(|x| *x != station);
         Ok(())
     }

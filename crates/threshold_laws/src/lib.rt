@@ -4,13 +4,13 @@
 //! The crate may call `offer_sched` and `plain_pack`. Only tests call it: no auction and no check does. In reading order:
 //!
 //! - `wins`: whether a station would be bought with another value.
-//! - `rule`, `turns`, `clock`: the plain clock rule, its order of tests, and its state.
+//! - `rule`, `round_order`, `clock`: the plain clock rule, its order of tests, and its state.
 //! - `paid`, `plain`: laws, which no code calls.
 #![tactic(auto)]
 
 mod clock;
 pub mod paid;
 pub mod plain;
+mod round_order;
 mod rule;
-mod turns;
 pub mod wins;

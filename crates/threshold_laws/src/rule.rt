@@ -7,8 +7,8 @@ ghost use Rattle.pack_defs.specs.Scenario.{StationsAscend, value_of};
 ghost use Rattle.pack_defs.specs.Prices.{declines, declines_by_value, offer, prices, stays};
 ghost use Rattle.pack_defs.specs.ClockRule.{after_test, after_tests, asked_set, clock_rule, exits, is_on_air, opening_state};
 
-use crate::clock::{Aired, PlainClock};
-use crate::turns::{facilities, turns, volume_of};
+use crate::clock::{OnAirStation, PlainClock};
+use crate::round_order::{facilities, round_order, volume_of};
 use pack_defs::book::Book;
 use pack_defs::order::Order;
 use pack_defs::owners::Owners;
@@ -127,7 +127,7 @@ impl PlainRule<'_> {
     }
 
     // Returns the stations that decline the opening offer, which are on air from the start.
-    fn starters(&self, alloc: Global) -> Result<Vec<Aired>, NoMemory>
+    fn starters(&self, alloc: Global) -> Result<Vec<OnAirStation>, NoMemory>
         ensures { IfOk result (λ v. v.items ≡ (opening_state self.now.sc.now).on_air) }
     {
         let mut on_air = Vec::new(alloc);
@@ -136,7 +136,7 @@ impl PlainRule<'_> {
             if !self.declines_opening(*s) {
                 continue;
             }
-            on_air.push(Aired {
+            on_air.push(OnAirStation {
                 station: *s,
                 round: 0,
             })?;
@@ -192,7 +192,7 @@ impl PlainRule<'_> {
         if !self.exits(station, round) {
             return Ok(());
         }
-        clock.air(station, round)
+        clock.put_on_air(station, round)
     }
 
     // Tests these stations in this round, in their order.
@@ -223,7 +223,7 @@ impl PlainRule<'_> {
         requires { StationsAscend self.now.sc.now }
         ensures { IfOk result (λ clock. clock ≡ clock_rule self.now.sc.now self.now.book.now order []) }
     {
-        let bidders = self.bidders(alloc, &turns(alloc, self.sc, order)?)?;
+        let bidders = self.bidders(alloc, &round_order(alloc, self.sc, order)?)?;
         let mut clock = self.open(alloc)?;
         for round in 1..self.schedule.len() + 1 {
             self.round(alloc, &bidders, round, &mut clock)?;

@@ -1,4 +1,4 @@
--- For `turn`: if no third place is found, all literals of the clause except the other watched one are false.
+-- For `watch_update`: if no third place is found, all literals of the clause except the other watched one are false.
 use Rattle.std.proofs.Common.{◌≡◌, ◌≢◌, ℕ, zero, suc, ◌<◌, true, not, cond, List, [], ◌∷◌, Some, None, length, refl, sym, ap, ◌∙◌, subst, inl, inr, ◌⊎◌, arith}
 use Rattle.std.proofs.lemmas.Bool.{cond-false, or_left, or_right}
 use Rattle.clause_db.specs.declared.lit.Lit.{Lit}
@@ -6,7 +6,7 @@ use Rattle.clause_db.specs.Clause.{opposite, has_lit, same_lit}
 use Rattle.clause_db.specs.Forced.{not_false, only_open}
 use Rattle.clause_db.proofs.Literals.{same_lit-refl, open-kept, open-skipped}
 use Rattle.trail_prop.specs.Find.{FindIs}
-use Rattle.trail_prop.specs.Turn.{LeavesOnly}
+use Rattle.trail_prop.specs.WatchUpdate.{AllButOneFalse}
 use Rattle.trail_prop.specs.Watching.{lit_at}
 use Rattle.trail_prop.proofs.Known.{open-parts}
 use Rattle.trail_prop.proofs.Forcing.{false-from-none}
@@ -44,7 +44,7 @@ has-at [] i l = absurd (no-place i l)
 has-at (x ∷ xs) zero l = or_left (same_lit x x) (has_lit xs x) (same_lit-refl x)
 has-at (x ∷ xs) (suc i) l = or_right (same_lit (lit_at xs i) x) (has_lit xs (lit_at xs i)) (has-at xs i (omega arith))
 
-leaves-from : (known clause : List Lit) (b : ℕ) → b < length clause → not_false known clause ≡ not_false known (lit_at clause b ∷ []) → LeavesOnly known clause (lit_at clause b)
+leaves-from : (known clause : List Lit) (b : ℕ) → b < length clause → not_false known clause ≡ not_false known (lit_at clause b ∷ []) → AllButOneFalse known clause (lit_at clause b)
 leaves-from known clause b l e = record {
   has = has-at clause b l;
   fails = λ h. false-from-none known clause (e ∙ open-skipped known [] (lit_at clause b) h);
@@ -53,14 +53,14 @@ leaves-from known clause b l e = record {
       ap (λ (z : List Lit). only_open known z) (e ∙ open-kept known [] (lit_at clause b) parts.1) ∙ cond-false (has_lit known (lit_at clause b)) None (Some (lit_at clause b)) parts.0;
 }
 
-pub found-none : (known clause : List Lit) (a b : ℕ) → FindIs known clause a b None → b < length clause → has_lit known (opposite (lit_at clause a)) ≡ true → LeavesOnly known clause (lit_at clause b)
+pub found-none : (known clause : List Lit) (a b : ℕ) → FindIs known clause a b None → b < length clause → has_lit known (opposite (lit_at clause a)) ≡ true → AllButOneFalse known clause (lit_at clause b)
 found-none known clause a b f l g = leaves-from known clause b l (but-one known clause b l (others-false known clause a b f g))
 
 -- a clause of two literals, one of which is false
-pub pair-leaves : (known : List Lit) (l m : Lit) → has_lit known (opposite l) ≡ true → LeavesOnly known (l ∷ m ∷ []) m
+pub pair-leaves : (known : List Lit) (l m : Lit) → has_lit known (opposite l) ≡ true → AllButOneFalse known (l ∷ m ∷ []) m
 pair-leaves known l m h = leaves-from known (l ∷ m ∷ []) 1 (omega arith) (open-skipped known (m ∷ []) l h)
 
-pub pair-leaves-first : (known : List Lit) (l m : Lit) → has_lit known (opposite l) ≡ true → LeavesOnly known (m ∷ l ∷ []) m
+pub pair-leaves-first : (known : List Lit) (l m : Lit) → has_lit known (opposite l) ≡ true → AllButOneFalse known (m ∷ l ∷ []) m
 pair-leaves-first known l m h =
     let rest : not_false known (l ∷ []) ≡ [] = open-skipped known [] l h in
     leaves-from known (m ∷ l ∷ []) 0 (omega arith) (ap (λ (z : List Lit). cond (not (has_lit known (opposite m))) (m ∷ z) z) rest)

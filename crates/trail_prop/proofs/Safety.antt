@@ -8,7 +8,7 @@ use Rattle.clause_db.specs.declared.lit.Lit.{Lit}
 use Rattle.clause_db.specs.Clause.{opposite, has_lit, same_lit, neg_lit}
 use Rattle.trail_prop.specs.declared.entry.TrailEntry.{TrailEntry}
 use Rattle.trail_prop.specs.Entries.{lits_of, EachOpens, IsTrailEntry}
-use Rattle.trail_prop.specs.Good.{IsLateFalse, IsGood}
+use Rattle.trail_prop.specs.Watchable.{IsLateFalse, IsWatchable}
 use Rattle.trail_prop.specs.Open.{is_open, IsClauseSettled}
 use Rattle.trail_prop.specs.Watching.{lit_at, HasTrue, IsSafe, IsFixed}
 use Rattle.clause_db.specs.Forced.{not_false, only_open}
@@ -193,7 +193,7 @@ safe-late es head clause l t late = λ k e b i f.
     let has : has_lit clause q.1.lit ≡ true = ap (λ (z : Lit). has_lit clause z) q.3 ∙ t.1 in
     (q.0, q.1, q.2, has, late k e i f q.0 q.1 q.2)
 
-pub safe-good : (es : List TrailEntry) (holds : Bool) (clause : List Lit) (l : Lit) → (holds ≡ true → HasTrue (lits_of es) clause) → IsGood es holds l → (head : ℕ) → IsSafe es head clause l
+pub safe-good : (es : List TrailEntry) (holds : Bool) (clause : List Lit) (l : Lit) → (holds ≡ true → HasTrue (lits_of es) clause) → IsWatchable es holds l → (head : ℕ) → IsSafe es head clause l
 safe-good es holds clause l t g head = elim g [
   | inl n ↦ safe-open es head clause l n
   | inr p ↦ safe-late es head clause l (t p.0) p.1

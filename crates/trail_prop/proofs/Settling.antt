@@ -9,14 +9,14 @@ use Rattle.clause_db.specs.declared.lit.Lit.{Lit}
 use Rattle.clause_db.specs.Clause.{opposite, has_lit, code_of}
 use Rattle.clause_db.specs.Clauses.{Clauses, LitWithin, ClausesWithin}
 use Rattle.trail_prop.specs.declared.entry.TrailEntry.{TrailEntry}
-use Rattle.trail_prop.specs.declared.turn.Moved.{Moved}
-use Rattle.trail_prop.specs.declared.turn.WatchPlaces.{WatchPlaces}
+use Rattle.trail_prop.specs.declared.watch_update.Moved.{Moved}
+use Rattle.trail_prop.specs.declared.watch_update.WatchPlaces.{WatchPlaces}
 use Rattle.trail_prop.specs.declared.watches.Watch.{Watch}
 use Rattle.trail_prop.specs.Entries.{lits_of, EachOpens, IsTrailEntry}
 use Rattle.trail_prop.specs.Open.{IsClauseSettled, IsComplete}
 use Rattle.trail_prop.specs.Steps.{IsWatchHeld, Shrinks}
-use Rattle.trail_prop.specs.Turn.{IsMove, IsOneOf}
-use Rattle.trail_prop.specs.Watching.{lit_at, clause_of, watches_at, places_of, StandsAt, HasTrue, IsFixed, IsSafe, watches_of, IsGuarded, IsWatched, WatchFits, WatchView, waits, IsNumber, IsWatchOf, IsWaiting, AllWait, IsWatchful}
+use Rattle.trail_prop.specs.WatchUpdate.{IsWatchMove, IsOneOf}
+use Rattle.trail_prop.specs.Watching.{lit_at, clause_of, watches_at, places_of, IsHeadOpposite, HasTrue, IsFixed, IsSafe, watches_of, IsGuarded, IsWatched, WatchFits, WatchView, pending_count, IsNumber, IsWatchOf, IsPendingAt, AllPending, IsWatchInvariant}
 use Rattle.trail_prop.proofs.Counting.{count-push, count-pushed, take-removed, length-removed, count-removed, found, all-removed, not-same}
 use Rattle.trail_prop.proofs.Minding.{Minds, minds-safe, minds-more, others-stay, relisted-same, relisted-other, relisted-more, relisted-fits, code-listed, same-or-not}
 use Rattle.trail_prop.proofs.Safety.{safe-open, safe-step, safe-other, opposite-twice, true-settled, fixed-true, watched-settled}
@@ -43,7 +43,7 @@ guard-old es head lists n clause p i o w = elim o [
   | inr e ↦ subst (λ (j : ℕ). IsGuarded es head lists n clause j) (sym e) w.second
 ]
 
-moved-minds : (vars : ℕ) (es : List TrailEntry) (head : ℕ) (lists : List (List Watch)) (gone : Lit) (ws : List Watch) (pending : List ℕ) (k : ℕ) (clause : List Lit) (p : WatchPlaces) (m : Moved) → LitWithin vars gone → LitWithin vars m.lit → LitWithin vars m.other → has_lit (lits_of es) (opposite gone) ≡ true → IsMove (lits_of es) clause p gone m → 0 < watches_of (k + 1) (watches_at lists m.lit) → Minds es head lists pending k clause p → Minds es head (slice_set lists (code_of gone) ws) pending k clause m.places
+moved-minds : (vars : ℕ) (es : List TrailEntry) (head : ℕ) (lists : List (List Watch)) (gone : Lit) (ws : List Watch) (pending : List ℕ) (k : ℕ) (clause : List Lit) (p : WatchPlaces) (m : Moved) → LitWithin vars gone → LitWithin vars m.lit → LitWithin vars m.other → has_lit (lits_of es) (opposite gone) ≡ true → IsWatchMove (lits_of es) clause p gone m → 0 < watches_of (k + 1) (watches_at lists m.lit) → Minds es head lists pending k clause p → Minds es head (slice_set lists (code_of gone) ws) pending k clause m.places
 moved-minds vars es head lists gone ws pending k clause p m wg wl wo false' mv h old = elim old [
   | inl w ↦ inl w
   | inr r ↦ inr (elim r [
@@ -69,7 +69,7 @@ placed-same places k p b = get_or-set_same places k p (record { first = 0; secon
 placed-other : (places : List WatchPlaces) (j k : ℕ) (p : WatchPlaces) → k ≢ j → places_of (slice_set places j p) k ≡ places_of places k
 placed-other places j k p n = get_or-set_other places j k p (record { first = 0; second = 0 }) n
 
-pub watchful-left : (v : WatchView) (gone : Lit) (at n : ℕ) (d : Watch) (m : Moved) → IsWatchful v → IsWatchOf v gone at n → IsNumber (length v.trail.clauses.list) n → LitWithin v.trail.clauses.vars m.lit → LitWithin v.trail.clauses.vars m.other → has_lit (lits_of v.trail.entries) (opposite gone) ≡ true → IsMove (lits_of v.trail.entries) (clause_of v.trail.clauses.list (n - 1)) (places_of v.places (n - 1)) gone m → 0 < watches_of n (watches_at v.lists m.lit) → IsWatchful (record { trail = v.trail; lists = slice_set v.lists (code_of gone) (swap_remove (watches_at v.lists gone) at d); places = slice_set v.places (n - 1) m.places; pending = v.pending; head = v.head })
+pub watchful-left : (v : WatchView) (gone : Lit) (at n : ℕ) (d : Watch) (m : Moved) → IsWatchInvariant v → IsWatchOf v gone at n → IsNumber (length v.trail.clauses.list) n → LitWithin v.trail.clauses.vars m.lit → LitWithin v.trail.clauses.vars m.other → has_lit (lits_of v.trail.entries) (opposite gone) ≡ true → IsWatchMove (lits_of v.trail.entries) (clause_of v.trail.clauses.list (n - 1)) (places_of v.places (n - 1)) gone m → 0 < watches_of n (watches_at v.lists m.lit) → IsWatchInvariant (record { trail = v.trail; lists = slice_set v.lists (code_of gone) (swap_remove (watches_at v.lists gone) at d); places = slice_set v.places (n - 1) m.places; pending = v.pending; head = v.head })
 watchful-left v gone at n d m h stands number wl wo f mv hung =
     let w = stands.within in
     let b = stands.place in
@@ -88,28 +88,28 @@ watchful-left v gone at n d m h stands number wl wo f mv hung =
       listed = length-set v.lists (code_of gone) ws' ∙ h.listed;
       numbers = h.numbers;
       fits = relisted-fits v.trail.clauses.vars v.trail.clauses.list v.lists gone ws' c w (all-removed (WatchFits v.trail.clauses.list gone) ws at d b (h.fits gone w)) h.fits;
-      minds = λ k t. elim (same-or-not k (n - 1)) [
+      accounted_for = λ k t. elim (same-or-not k (n - 1)) [
         | inl s ↦
             let next : n ≡ k + 1 = omega arith in
             let there : k < length v.places = omega (arith, h.sized) in
-            let mv' = subst (λ (j : ℕ). IsMove (lits_of es) (clause_of v.trail.clauses.list j) (places_of v.places j) gone m) (sym s) mv in
+            let mv' = subst (λ (j : ℕ). IsWatchMove (lits_of es) (clause_of v.trail.clauses.list j) (places_of v.places j) gone m) (sym s) mv in
             let hung' = subst (λ (j : ℕ). 0 < watches_of j (watches_at v.lists m.lit)) next hung in
-            let now = moved-minds v.trail.clauses.vars es v.head v.lists gone ws' v.pending k (clause_of v.trail.clauses.list k) (places_of v.places k) m w wl wo f mv' hung' (h.minds k t) in
+            let now = moved-minds v.trail.clauses.vars es v.head v.lists gone ws' v.pending k (clause_of v.trail.clauses.list k) (places_of v.places k) m w wl wo f mv' hung' (h.accounted_for k t) in
             let at-k : Minds es v.head (slice_set v.lists (code_of gone) ws') v.pending k (clause_of v.trail.clauses.list k) (places_of (slice_set v.places k m.places) k) = subst (λ (q : WatchPlaces). Minds es v.head (slice_set v.lists (code_of gone) ws') v.pending k (clause_of v.trail.clauses.list k) q) (sym (placed-same v.places k m.places there)) now in
             subst (λ (j : ℕ). Minds es v.head (slice_set v.lists (code_of gone) ws') v.pending k (clause_of v.trail.clauses.list k) (places_of (slice_set v.places j m.places) k)) s at-k
         | inr o ↦
             let other : k + 1 ≢ n = λ q. o (omega arith) in
-            minds-more es v.head v.lists (slice_set v.lists (code_of gone) ws') v.pending v.pending k (clause_of v.trail.clauses.list k) (places_of v.places k) (places_of (slice_set v.places (n - 1) m.places) k) (omega arith) (relisted-more v.lists gone ws' (k + 1) c (others-stay ws at n k d b e other)) (placed-other v.places (n - 1) k m.places o) (h.minds k t)
+            minds-more es v.head v.lists (slice_set v.lists (code_of gone) ws') v.pending v.pending k (clause_of v.trail.clauses.list k) (places_of v.places k) (places_of (slice_set v.places (n - 1) m.places) k) (omega arith) (relisted-more v.lists gone ws' (k + 1) c (others-stay ws at n k d b e other)) (placed-other v.places (n - 1) k m.places o) (h.accounted_for k t)
       ];
     }
 
 -- a clause is no longer pending
-others-wait : (pending : List ℕ) (at k : ℕ) (d : ℕ) → at < length pending → get_or pending at d ≢ k + 1 → waits (k + 1) pending ≤ waits (k + 1) (swap_remove pending at d)
+others-wait : (pending : List ℕ) (at k : ℕ) (d : ℕ) → at < length pending → get_or pending at d ≢ k + 1 → pending_count (k + 1) pending ≤ pending_count (k + 1) (swap_remove pending at d)
 others-wait pending at k d b o =
     let same = count-removed (λ (m : ℕ). m == k + 1) pending at d b (not-same (get_or pending at d) (k + 1) o) in
     omega arith
 
-pub watchful-forgot : (v : WatchView) (at d : ℕ) → IsWatchful v → at < length v.pending → IsFixed v.trail.entries (clause_of v.trail.clauses.list (get_or v.pending at d - 1)) → IsWatchful (record { trail = v.trail; lists = v.lists; places = v.places; pending = swap_remove v.pending at d; head = v.head })
+pub watchful-forgot : (v : WatchView) (at d : ℕ) → IsWatchInvariant v → at < length v.pending → IsFixed v.trail.entries (clause_of v.trail.clauses.list (get_or v.pending at d - 1)) → IsWatchInvariant (record { trail = v.trail; lists = v.lists; places = v.places; pending = swap_remove v.pending at d; head = v.head })
 watchful-forgot v at d h b f = record {
   small = h.small;
   within = h.within;
@@ -118,18 +118,18 @@ watchful-forgot v at d h b f = record {
   listed = h.listed;
   numbers = all-removed (IsNumber (length v.trail.clauses.list)) v.pending at d b h.numbers;
   fits = h.fits;
-  minds = λ k t. elim (same-or-not (get_or v.pending at d) (k + 1)) [
+  accounted_for = λ k t. elim (same-or-not (get_or v.pending at d) (k + 1)) [
     | inl s ↦
         let there : get_or v.pending at d - 1 ≡ k = omega arith in
         inr (inl (subst (λ (j : ℕ). IsFixed v.trail.entries (clause_of v.trail.clauses.list j)) there f))
-    | inr o ↦ minds-more v.trail.entries v.head v.lists v.lists v.pending (swap_remove v.pending at d) k (clause_of v.trail.clauses.list k) (places_of v.places k) (places_of v.places k) (others-wait v.pending at k d b o) (λ m. omega arith) refl (h.minds k t)
+    | inr o ↦ minds-more v.trail.entries v.head v.lists v.lists v.pending (swap_remove v.pending at d) k (clause_of v.trail.clauses.list k) (places_of v.places k) (places_of v.places k) (others-wait v.pending at k d b o) (λ m. omega arith) refl (h.accounted_for k t)
   ];
 }
 
-pub watchful-settled : (v : WatchView) (at n d : ℕ) (p : WatchPlaces) → IsWatchful v → IsWaiting v at n → IsNumber (length v.trail.clauses.list) n → IsWatched v.trail.entries v.head v.lists n (clause_of v.trail.clauses.list (n - 1)) p → IsWatchful (record { trail = v.trail; lists = v.lists; places = slice_set v.places (n - 1) p; pending = swap_remove v.pending at d; head = v.head })
-watchful-settled v at n d p h waits number w =
-    let b = waits.place in
-    let e : get_or v.pending at d ≡ n = sym (waits.number ∙ get_or_default v.pending at n d b) in
+pub watchful-settled : (v : WatchView) (at n d : ℕ) (p : WatchPlaces) → IsWatchInvariant v → IsPendingAt v at n → IsNumber (length v.trail.clauses.list) n → IsWatched v.trail.entries v.head v.lists n (clause_of v.trail.clauses.list (n - 1)) p → IsWatchInvariant (record { trail = v.trail; lists = v.lists; places = slice_set v.places (n - 1) p; pending = swap_remove v.pending at d; head = v.head })
+watchful-settled v at n d p h pending_count number w =
+    let b = pending_count.place in
+    let e : get_or v.pending at d ≡ n = sym (pending_count.number ∙ get_or_default v.pending at n d b) in
     let one = number.from_one in
     let last = number.to_last in
     record {
@@ -140,7 +140,7 @@ watchful-settled v at n d p h waits number w =
       listed = h.listed;
       numbers = all-removed (IsNumber (length v.trail.clauses.list)) v.pending at d b h.numbers;
       fits = h.fits;
-      minds = λ k t. elim (same-or-not k (n - 1)) [
+      accounted_for = λ k t. elim (same-or-not k (n - 1)) [
         | inl s ↦
             let next : n ≡ k + 1 = omega arith in
             let there : k < length v.places = omega (arith, h.sized) in
@@ -150,7 +150,7 @@ watchful-settled v at n d p h waits number w =
             inr (inr (subst (λ (q : WatchPlaces). IsWatched v.trail.entries v.head v.lists (k + 1) (clause_of v.trail.clauses.list k) q) (sym placed) w''))
         | inr o ↦
             let other : get_or v.pending at d ≢ k + 1 = λ q. o (omega arith) in
-            minds-more v.trail.entries v.head v.lists v.lists v.pending (swap_remove v.pending at d) k (clause_of v.trail.clauses.list k) (places_of v.places k) (places_of (slice_set v.places (n - 1) p) k) (others-wait v.pending at k d b other) (λ m. omega arith) (placed-other v.places (n - 1) k p o) (h.minds k t)
+            minds-more v.trail.entries v.head v.lists v.lists v.pending (swap_remove v.pending at d) k (clause_of v.trail.clauses.list k) (places_of v.places k) (places_of (slice_set v.places (n - 1) p) k) (others-wait v.pending at k d b other) (λ m. omega arith) (placed-other v.places (n - 1) k p o) (h.accounted_for k t)
       ];
     }
 
@@ -163,7 +163,7 @@ held-true v gone l k e h a =
     let there : r.0.clause - 1 ≡ k = omega arith in
     subst (λ (j : ℕ). HasTrue (lits_of v.trail.entries) (clause_of v.trail.clauses.list j)) there r.2
 
-pub watchful-advanced : (v : WatchView) (gone : Lit) (level : ℕ) → IsWatchful v → StandsAt v.trail.entries v.head level gone → All (λ (e : TrailEntry). e.level ≤ level) v.trail.entries → All (IsWatchHeld v) (watches_at v.lists gone) → IsWatchful (record { trail = v.trail; lists = v.lists; places = v.places; pending = v.pending; head = v.head + 1 })
+pub watchful-advanced : (v : WatchView) (gone : Lit) (level : ℕ) → IsWatchInvariant v → IsHeadOpposite v.trail.entries v.head level gone → All (λ (e : TrailEntry). e.level ≤ level) v.trail.entries → All (IsWatchHeld v) (watches_at v.lists gone) → IsWatchInvariant (record { trail = v.trail; lists = v.lists; places = v.places; pending = v.pending; head = v.head + 1 })
 watchful-advanced v gone level h s low a =
     let es = v.trail.entries in
     let e = s.0 in
@@ -181,12 +181,12 @@ watchful-advanced v gone level h s low a =
       listed = h.listed;
       numbers = h.numbers;
       fits = h.fits;
-      minds = λ k t. let c = clause_of v.trail.clauses.list k in
+      accounted_for = λ k t. let c = clause_of v.trail.clauses.list k in
           minds-safe es es v.head (v.head + 1) v.lists v.pending k c (places_of v.places k) (λ f. f)
           (λ j g. elim (same-or-not (code_of (lit_at c j)) (code_of gone)) [
             | inl q ↦ safe-step es v.head c (lit_at c j) e g.safe i (held-true v gone (lit_at c j) k q g.held a) top
             | inr o ↦ safe-other es v.head c (lit_at c j) e g.safe i (λ q. o (ap (λ (z : Lit). code_of z) (opposite-twice (lit_at c j) ∙ (ap (λ (z : Lit). opposite z) (sym q ∙ s.2) ∙ sym (opposite-twice gone)))))
-          ]) (h.minds k t);
+          ]) (h.accounted_for k t);
     }
 
 -- no clause is watched yet
@@ -199,12 +199,12 @@ no-watches (suc n) zero = refl
 no-watches (suc n) (suc c) = no-watches n c
 
 -- once no entry is left and each pending clause is settled, all clauses are
-pub watchful-complete : (v : WatchView) → IsWatchful v → EachOpens v.trail.clauses.vars [] v.trail.entries → v.head ≡ length v.trail.entries → All (λ (n : ℕ). IsClauseSettled (lits_of v.trail.entries) (clause_of v.trail.clauses.list (n - 1))) v.pending → IsComplete v.trail.clauses.list (lits_of v.trail.entries)
+pub watchful-complete : (v : WatchView) → IsWatchInvariant v → EachOpens v.trail.clauses.vars [] v.trail.entries → v.head ≡ length v.trail.entries → All (λ (n : ℕ). IsClauseSettled (lits_of v.trail.entries) (clause_of v.trail.clauses.list (n - 1))) v.pending → IsComplete v.trail.clauses.list (lits_of v.trail.entries)
 watchful-complete v h o last a = λ k d b.
     let es = v.trail.entries in
     let known = lits_of es in
     let c = clause_of v.trail.clauses.list k in
-    let settled : IsClauseSettled known c = elim (h.minds k b) [
+    let settled : IsClauseSettled known c = elim (h.accounted_for k b) [
       | inl w ↦
           let r = found (λ (m : ℕ). m == k + 1) (λ (n : ℕ). IsClauseSettled known (clause_of v.trail.clauses.list (n - 1))) v.pending w a in
           let n : r.0 ≡ k + 1 = eqb-true r.0 (k + 1) r.1 in
@@ -221,7 +221,7 @@ watchful-complete v h o last a = λ k d b.
     ] in
     subst (λ (z : List Lit). IsClauseSettled known z) (get_or_default v.trail.clauses.list k [] d b) settled
 
-pub watchful-new : (clauses : Clauses) (lists : List (List Watch)) (places : List WatchPlaces) (pending : List ℕ) → clauses.vars < 2 ^ 32 → ClausesWithin clauses.vars clauses.list → lists ≡ replicate (2 * clauses.vars) [] → length lists ≡ 2 * clauses.vars → length places ≡ length clauses.list → AllWait (length clauses.list) pending → IsWatchful (record { trail = record { clauses = clauses; entries = [] }; lists = lists; places = places; pending = pending; head = 0 })
+pub watchful-new : (clauses : Clauses) (lists : List (List Watch)) (places : List WatchPlaces) (pending : List ℕ) → clauses.vars < 2 ^ 32 → ClausesWithin clauses.vars clauses.list → lists ≡ replicate (2 * clauses.vars) [] → length lists ≡ 2 * clauses.vars → length places ≡ length clauses.list → AllPending (length clauses.list) pending → IsWatchInvariant (record { trail = record { clauses = clauses; entries = [] }; lists = lists; places = places; pending = pending; head = 0 })
 watchful-new clauses lists places pending small x e n p w = record {
   small = small;
   within = x;
@@ -230,11 +230,11 @@ watchful-new clauses lists places pending small x e n p w = record {
   listed = n;
   numbers = w.0;
   fits = λ l x. subst (λ (z : List (List Watch)). All (WatchFits clauses.list l) (watches_at z l)) (sym e) (subst (λ (z : List Watch). All (WatchFits clauses.list l) z) (sym (no-watches (2 * clauses.vars) (code_of l))) (All-nil (WatchFits clauses.list l)));
-  minds = λ k t. inl (w.1 k t);
+  accounted_for = λ k t. inl (w.1 k t);
 }
 
 -- this many clauses are pending
-pub all-wait-more : (count : ℕ) (pending : List ℕ) → AllWait count pending → AllWait (count + 1) (pending ++ (count + 1) ∷ [])
+pub all-wait-more : (count : ℕ) (pending : List ℕ) → AllPending count pending → AllPending (count + 1) (pending ++ (count + 1) ∷ [])
 all-wait-more count pending w = (
   All-push (IsNumber (count + 1)) pending (count + 1) (All-weaker (IsNumber count) (IsNumber (count + 1)) (λ n b. let t = b.to_last in record { from_one = b.from_one; to_last = omega arith }) pending w.0) (record { from_one = omega arith; to_last = omega arith }),
   λ k b. elim (same-or-not k count) [

@@ -1,10 +1,10 @@
 pub mod Entries
 pub mod Find
-pub mod Good
-pub mod Look
+pub mod Watchable
+pub mod ClauseStatus
 pub mod Open
-pub mod Passes
+pub mod Plain
 pub mod Steps
 pub mod Trails
-pub mod Turn
+pub mod WatchUpdate
 pub mod Watching

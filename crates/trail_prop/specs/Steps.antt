@@ -8,20 +8,20 @@ use Rattle.trail_prop.specs.declared.entry.TrailEntry.{TrailEntry}
 use Rattle.trail_prop.specs.declared.watches.Watch.{Watch}
 use Rattle.trail_prop.specs.declared.plain.PropagationStep.{PropagationStep}
 use Rattle.trail_prop.specs.declared.plain.PropagationStep.TheVariants.{Found, Quiet, Moved}
-use Rattle.trail_prop.specs.declared.propagate.WatchMet.{WatchMet}
-use Rattle.trail_prop.specs.declared.propagate.WatchMet.TheVariants.{False, Stays, Leaves}
+use Rattle.trail_prop.specs.declared.propagate.WatchOutcome.{WatchOutcome}
+use Rattle.trail_prop.specs.declared.propagate.WatchOutcome.TheVariants.{False, Stays, Leaves}
 use Rattle.trail_prop.specs.Entries.{lits_of, IsTrailEntry}
 use Rattle.trail_prop.specs.Open.{IsComplete, IsClauseSettled}
 use Rattle.trail_prop.specs.Trails.{TrailView, IsFalseAt, Grows}
 use Rattle.trail_prop.specs.Watching.{WatchView, WatchFits, HasTrue, clause_of, watches_at}
 
 -- The watched clauses with another trail.
-abbrev pub onto : WatchView → TrailView → WatchView
-onto v trail = record { trail = trail; lists = v.lists; places = v.places; pending = v.pending; head = v.head }
+abbrev pub with_trail : WatchView → TrailView → WatchView
+with_trail v trail = record { trail = trail; lists = v.lists; places = v.places; pending = v.pending; head = v.head }
 
 -- The watched clauses with other watches of a literal.
-abbrev pub relisted : WatchView → Lit → List Watch → WatchView
-relisted v l ws = record { trail = v.trail; lists = slice_set v.lists (code_of l) ws; places = v.places; pending = v.pending; head = v.head }
+abbrev pub with_watch_list : WatchView → Lit → List Watch → WatchView
+with_watch_list v l ws = record { trail = v.trail; lists = slice_set v.lists (code_of l) ws; places = v.places; pending = v.pending; head = v.head }
 
 -- Whether the clause of the watch has a true literal.
 abbrev pub IsWatchHeld : WatchView → Watch → Type 0
@@ -59,10 +59,10 @@ pub record Shrinks (old new : WatchView) (gone : Lit) (at : ℕ) : Type 0 where
   pub left : length (watches_at new.lists gone) + 1 ≡ length (watches_at old.lists gone)
 
 -- What happened to the watch at a place. The ones before it stay.
-abbrev pub MetIs : WatchView → WatchView → Lit → ℕ → WatchMet → Type 0
-MetIs old new gone at (False conflict) = IsFalseAt (lits_of new.trail.entries) (clause_at new.trail.clauses.list conflict.clause)
-MetIs old new gone at Stays = AreHeld new gone (at + 1) × (length (watches_at new.lists gone) ≡ length (watches_at old.lists gone))
-MetIs old new gone at Leaves = AreHeld new gone at × (length (watches_at new.lists gone) + 1 ≡ length (watches_at old.lists gone))
+abbrev pub WatchOutcomeIs : WatchView → WatchView → Lit → ℕ → WatchOutcome → Type 0
+WatchOutcomeIs old new gone at (False conflict) = IsFalseAt (lits_of new.trail.entries) (clause_at new.trail.clauses.list conflict.clause)
+WatchOutcomeIs old new gone at Stays = AreHeld new gone (at + 1) × (length (watches_at new.lists gone) ≡ length (watches_at old.lists gone))
+WatchOutcomeIs old new gone at Leaves = AreHeld new gone at × (length (watches_at new.lists gone) + 1 ≡ length (watches_at old.lists gone))
 
 -- Whether this is the entry at the head, or the head is after the last entry.
 abbrev pub NextIs : WatchView → Option TrailEntry → Type 0
@@ -87,7 +87,7 @@ pub record VisitKeeps (old new : WatchView) (gone : Lit) (at : ℕ) : Type 0 whe
   pub held : AreHeld new gone at
 
 -- What stays true while the pending clauses, `many` at the start, are visited, up to a place.
-pub record LooksKeep (old new : WatchView) (at many : ℕ) : Type 0 where
+pub record PendingScanKeeps (old new : WatchView) (at many : ℕ) : Type 0 where
   -- as many are pending as at the start
   pub count : many ≡ length new.pending
   -- the clauses stay

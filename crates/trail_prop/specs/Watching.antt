@@ -5,7 +5,7 @@ use Rattle.clause_db.specs.declared.lit.Lit.{Lit}
 use Rattle.clause_db.specs.Clause.{opposite, has_lit, neg_lit, code_of}
 use Rattle.clause_db.specs.Clauses.{LitWithin, ClausesWithin}
 use Rattle.trail_prop.specs.declared.entry.TrailEntry.{TrailEntry}
-use Rattle.trail_prop.specs.declared.turn.WatchPlaces.{WatchPlaces}
+use Rattle.trail_prop.specs.declared.watch_update.WatchPlaces.{WatchPlaces}
 use Rattle.trail_prop.specs.declared.watches.Watch.{Watch}
 use Rattle.trail_prop.specs.Entries.{IsTrailEntry}
 use Rattle.trail_prop.specs.Trails.{TrailView}
@@ -31,8 +31,8 @@ abbrev pub places_of : List WatchPlaces → ℕ → WatchPlaces
 places_of places k = slice_index_or places k (record { first = 0; second = 0 })
 
 -- Whether the literal is the opposite of the entry at the head, and this entry is of the last level.
-abbrev pub StandsAt : List TrailEntry → ℕ → ℕ → Lit → Type 0
-StandsAt entries head level gone = (e : TrailEntry) × IsTrailEntry entries head e × (e.lit ≡ opposite gone) × (level ≤ e.level)
+abbrev pub IsHeadOpposite : List TrailEntry → ℕ → ℕ → Lit → Type 0
+IsHeadOpposite entries head level gone = (e : TrailEntry) × IsTrailEntry entries head e × (e.lit ≡ opposite gone) × (level ≤ e.level)
 
 -- Whether some literal of the clause is known to be true.
 abbrev pub HasTrue : List Lit → List Lit → Type 0
@@ -108,30 +108,30 @@ pub record IsWatchOf (v : WatchView) (l : Lit) (at n : ℕ) : Type 0 where
   pub clause : (d : Watch) → (slice_index_or (watches_at v.lists l) at d).clause ≡ n
 
 -- Whether the clause of this number is the pending one at a place.
-pub record IsWaiting (v : WatchView) (at n : ℕ) : Type 0 where
+pub record IsPendingAt (v : WatchView) (at n : ℕ) : Type 0 where
   -- a clause is pending at the place
   pub place : at < length v.pending
   -- and it has this number
   pub number : n ≡ slice_index_or v.pending at n
 
 -- How often the clause of this number is pending.
-abbrev pub waits : ℕ → List ℕ → ℕ
-waits n pending = count_by (λ m. m == n) pending
+abbrev pub pending_count : ℕ → List ℕ → ℕ
+pending_count n pending = count_by (λ m. m == n) pending
 
 -- Whether the clause at a place is pending, true at level 0, or watched.
-abbrev pub IsMinded : WatchView → ℕ → Type 0
-IsMinded v k = (0 < waits (k + 1) v.pending) ⊎ (IsFixed v.trail.entries (clause_of v.trail.clauses.list k) ⊎ IsWatched v.trail.entries v.head v.lists (k + 1) (clause_of v.trail.clauses.list k) (places_of v.places k))
+abbrev pub IsAccountedFor : WatchView → ℕ → Type 0
+IsAccountedFor v k = (0 < pending_count (k + 1) v.pending) ⊎ (IsFixed v.trail.entries (clause_of v.trail.clauses.list k) ⊎ IsWatched v.trail.entries v.head v.lists (k + 1) (clause_of v.trail.clauses.list k) (places_of v.places k))
 
 -- Whether each number is one of `count` clauses.
 abbrev pub AreClauseNumbers : ℕ → List ℕ → Type 0
 AreClauseNumbers count pending = All (IsNumber count) pending
 
 -- Whether all of `count` clauses are pending.
-abbrev pub AllWait : ℕ → List ℕ → Type 0
-AllWait count pending = AreClauseNumbers count pending × ((k : ℕ) → k < count → 0 < waits (k + 1) pending)
+abbrev pub AllPending : ℕ → List ℕ → Type 0
+AllPending count pending = AreClauseNumbers count pending × ((k : ℕ) → k < count → 0 < pending_count (k + 1) pending)
 
 -- The invariant of watched clauses: every clause is pending, true at level 0, or watched, and the numbers are in range.
-pub record IsWatchful (v : WatchView) : Type 0 where
+pub record IsWatchInvariant (v : WatchView) : Type 0 where
   pub small : v.trail.clauses.vars < 2 ^ 32
   pub within : ClausesWithin v.trail.clauses.vars v.trail.clauses.list
   pub head : v.head ≤ length v.trail.entries
@@ -139,4 +139,4 @@ pub record IsWatchful (v : WatchView) : Type 0 where
   pub listed : length v.lists ≡ 2 * v.trail.clauses.vars
   pub numbers : AreClauseNumbers (length v.trail.clauses.list) v.pending
   pub fits : (l : Lit) → LitWithin v.trail.clauses.vars l → All (WatchFits v.trail.clauses.list l) (watches_at v.lists l)
-  pub minds : (k : ℕ) → k < length v.trail.clauses.list → IsMinded v k
+  pub accounted_for : (k : ℕ) → k < length v.trail.clauses.list → IsAccountedFor v k

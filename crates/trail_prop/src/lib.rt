@@ -10,24 +10,24 @@
 //! - `entry`: an entry of the trail, and a conflict.
 //! - `trail`: the trail as solvers see it.
 //! - `assignment`: the true literals, with constant-time lookup.
-//! - `look`: the state of one clause under the true literals.
+//! - `clause_status`: the state of one clause under the true literals.
 //! - `plain`: a trail without watches, whose propagation visits all clauses.
 //! - `watches`: the watches of each literal.
-//! - `turn`: what a clause does when a watched literal becomes false.
-//! - `good`: which two literals a clause can watch.
+//! - `watch_update`: what a clause does when a watched literal becomes false.
+//! - `watchable`: which two literals a clause can watch.
 //! - `watching`: a trail with watches.
 //! - `propagate`: propagation over watched clauses.
 //! - `within`: a test that callers need for the trail's precondition.
 #![tactic(auto)]
 
 mod assignment;
+mod clause_status;
 pub mod entry;
-mod good;
-mod look;
 pub mod plain;
 mod propagate;
 pub mod trail;
-mod turn;
+mod watch_update;
+mod watchable;
 mod watches;
 mod watching;
 pub mod within;

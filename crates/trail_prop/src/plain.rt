@@ -8,11 +8,11 @@ ghost use Rattle.trail_prop.specs.Open.{LitsWithin, value_known, IsComplete};
 ghost use Rattle.trail_prop.specs.declared.entry.TrailEntry.{TrailEntry};
 ghost use Rattle.trail_prop.specs.Entries.{lits_of, level_of};
 ghost use Rattle.trail_prop.specs.Trails.{IsTrail, IsFalseAt, Grows, forced_at, is_up_to, AboveIs, IsCut};
-ghost use Rattle.trail_prop.specs.Passes.{PassIs};
+ghost use Rattle.trail_prop.specs.Plain.{PassIs};
 
 use crate::assignment::TrueLiterals;
+use crate::clause_status::{ClauseStatus, clause_status_of};
 use crate::entry::{Conflict, TrailEntry};
-use crate::look::{ClauseLook, look_at};
 use clause_db::list::ClauseList;
 use clause_db::lit::Lit;
 use std::alloc::{AllocError as NoMemory, Global};
@@ -188,15 +188,15 @@ impl PlainTrail {
     {
         let mut moved = false;
         for at in 0..self.clauses.len() {
-            match look_at(&self.assigned, self.clauses.get(at + 1)) {
-                ClauseLook::False => {
+            match clause_status_of(&self.assigned, self.clauses.get(at + 1)) {
+                ClauseStatus::False => {
                     return PropagationStep::Found(Conflict { clause: at + 1 });
                 }
-                ClauseLook::Forces(lit) => {
+                ClauseStatus::Forces(lit) => {
                     self.force(lit, at + 1);
                     moved = true;
                 }
-                ClauseLook::Settled => {}
+                ClauseStatus::Settled => {}
             }
         }
         if moved {

@@ -11,16 +11,16 @@ ghost use Rattle.trail_prop.specs.declared.watches.Watch.{Watch};
 ghost use Rattle.trail_prop.specs.Entries.{lits_of, level_of};
 ghost use Rattle.trail_prop.specs.Open.{IsComplete};
 ghost use Rattle.trail_prop.specs.Trails.{IsFalseAt, Grows};
-ghost use Rattle.trail_prop.specs.Turn.{IsMove, LeavesOnly};
-ghost use Rattle.trail_prop.specs.Good.{AreGood};
-ghost use Rattle.trail_prop.specs.Watching.{IsWatchful, IsNumber, IsWaiting, watches_at, clause_of, places_of, StandsAt};
-ghost use Rattle.trail_prop.specs.Steps.{AreHeld, IsNextWatch, IsNextLong, MetIs, PropagationStepIs};
+ghost use Rattle.trail_prop.specs.WatchUpdate.{IsWatchMove, AllButOneFalse};
+ghost use Rattle.trail_prop.specs.Watchable.{AreWatchable};
+ghost use Rattle.trail_prop.specs.Watching.{IsWatchInvariant, IsNumber, IsPendingAt, watches_at, clause_of, places_of, IsHeadOpposite};
+ghost use Rattle.trail_prop.specs.Steps.{AreHeld, IsNextWatch, IsNextLong, WatchOutcomeIs, PropagationStepIs};
 
+use crate::clause_status::{ClauseStatus, clause_status_of};
 use crate::entry::Conflict;
-use crate::good::{good_places, has_true};
-use crate::look::{ClauseLook, look_at};
 use crate::plain::PropagationStep;
-use crate::turn::{ClauseTurn, Moved, WatchPlaces, turn_of};
+use crate::watch_update::{Moved, WatchPlaces, WatchUpdate, watch_update_of};
+use crate::watchable::{has_true, watchable_places};
 use crate::watches::Watch;
 use crate::watching::Watching;
 use clause_db::lit::Lit;
@@ -29,7 +29,7 @@ use std::alloc::AllocError as NoMemory;
 /// What happened to a watch in the list of a literal that is now false. Its clause is false, the watch stays, or it leaves the
 /// list.
 #[derive(Clone, Copy, Debug, PartialEq, Eq)]
-pub(crate) enum WatchMet {
+pub(crate) enum WatchOutcome {
     False(Conflict),
     Stays,
     Leaves,
@@ -60,7 +60,7 @@ fn step(watching: &mut Watching) -> Result<PropagationStep, NoMemory>
     ensures step { IfOk result (PropagationStepIs watching.old watching.new) }
 {
     let Some(entry) = watching.next() else {
-        return review(watching);
+        return visit_pending(watching);
     };
     if entry.level < watching.plain().level() {
         return Ok(scan(watching));
@@ -83,17 +83,17 @@ fn scan(watching: &mut Watching) -> PropagationStep
 // Visits each watch of the literal that the entry at the head made false, and moves the head past the entry.
 fn visit(watching: &mut Watching, gone: Lit) -> Result<PropagationStep, NoMemory>
     requires within { LitWithin watching.old.trail.clauses.vars gone }
-    requires stands { StandsAt watching.old.trail.entries watching.old.head (level_of watching.old.trail.entries) gone }
+    requires stands { IsHeadOpposite watching.old.trail.entries watching.old.head (level_of watching.old.trail.entries) gone }
     ensures clauses { watching.new.trail.clauses ≡ watching.old.trail.clauses }
     ensures grows { Grows watching.old.trail.entries watching.new.trail.entries }
     ensures step { IfOk result (PropagationStepIs watching.old watching.new) }
 {
     let mut at = 0;
     while at < watching.count(gone) {
-        match meet(watching, gone, at)? {
-            WatchMet::False(conflict) => return Ok(PropagationStep::Found(conflict)),
-            WatchMet::Stays => at += 1,
-            WatchMet::Leaves => {}
+        match visit_watch(watching, gone, at)? {
+            WatchOutcome::False(conflict) => return Ok(PropagationStep::Found(conflict)),
+            WatchOutcome::Stays => at += 1,
+            WatchOutcome::Leaves => {}
         }
     }
     watching.advance(gone);
@@ -101,7 +101,7 @@ fn visit(watching: &mut Watching, gone: Lit) -> Result<PropagationStep, NoMemory
 }
 
 // Visits the clause of a watch, unless the literal that the watch names is true.
-fn meet(watching: &mut Watching, gone: Lit, at: usize) -> Result<WatchMet, NoMemory>
+fn visit_watch(watching: &mut Watching, gone: Lit, at: usize) -> Result<WatchOutcome, NoMemory>
     requires within { LitWithin watching.old.trail.clauses.vars gone }
     requires place { at < length (watches_at watching.old.lists gone) }
     requires gone { has_lit (lits_of watching.old.trail.entries) (opposite gone) ≡ true }
@@ -109,84 +109,90 @@ fn meet(watching: &mut Watching, gone: Lit, at: usize) -> Result<WatchMet, NoMem
     ensures clauses { watching.new.trail.clauses ≡ watching.old.trail.clauses }
     ensures head { watching.new.head ≡ watching.old.head }
     ensures grows { Grows watching.old.trail.entries watching.new.trail.entries }
-    ensures met { IfOk result (MetIs watching.old watching.new gone at) }
+    ensures met { IfOk result (WatchOutcomeIs watching.old watching.new gone at) }
 {
     let watch = watching.watch(gone, at);
     let blocker = watch.blocker();
     if watching.plain().assigned().is_true(blocker) {
-        return Ok(WatchMet::Stays);
+        return Ok(WatchOutcome::Stays);
     }
     if watch.pair {
-        return Ok(follow(watching, gone, at, watch, blocker));
+        return Ok(force_open(watching, gone, at, watch, blocker));
     }
-    meet_long(watching, gone, at, watch)
+    visit_long_clause(watching, gone, at, watch)
 }
 
 // Forces the one literal of a clause that may have no value. All others are false.
-fn follow(watching: &mut Watching, gone: Lit, at: usize, watch: Watch, lit: Lit) -> WatchMet
+fn force_open(watching: &mut Watching, gone: Lit, at: usize, watch: Watch, lit: Lit) -> WatchOutcome
     requires within { LitWithin watching.old.trail.clauses.vars lit }
     requires next { IsNextWatch watching.old gone at watch }
-    requires only { LeavesOnly (lits_of watching.old.trail.entries) (clause_of watching.old.trail.clauses.list (watch.clause - 1)) lit }
+    requires only { AllButOneFalse (lits_of watching.old.trail.entries) (clause_of watching.old.trail.clauses.list (watch.clause - 1)) lit }
     requires unknown { has_lit (lits_of watching.old.trail.entries) lit ≡ false }
     ensures clauses { watching.new.trail.clauses ≡ watching.old.trail.clauses }
     ensures head { watching.new.head ≡ watching.old.head }
     ensures grows { Grows watching.old.trail.entries watching.new.trail.entries }
-    ensures met { MetIs watching.old watching.new gone at result }
+    ensures met { WatchOutcomeIs watching.old watching.new gone at result }
 {
     let number = watch.clause as u64;
     if watching.plain().assigned().is_true(lit.opposite()) {
-        return WatchMet::False(Conflict { clause: number });
+        return WatchOutcome::False(Conflict { clause: number });
     }
     watching.force(lit, number);
-    WatchMet::Stays
+    WatchOutcome::Stays
 }
 
 // Visits a clause of more than two literals.
-fn meet_long(
+fn visit_long_clause(
     watching: &mut Watching,
     gone: Lit,
     at: usize,
     watch: Watch,
-) -> Result<WatchMet, NoMemory>
+) -> Result<WatchOutcome, NoMemory>
     requires next { IsNextLong watching.old gone at watch }
     requires gone { has_lit (lits_of watching.old.trail.entries) (opposite gone) ≡ true }
     ensures clauses { watching.new.trail.clauses ≡ watching.old.trail.clauses }
     ensures head { watching.new.head ≡ watching.old.head }
     ensures grows { Grows watching.old.trail.entries watching.new.trail.entries }
-    ensures met { IfOk result (MetIs watching.old watching.new gone at) }
+    ensures met { IfOk result (WatchOutcomeIs watching.old watching.new gone at) }
 {
     let number = watch.clause as u64;
     let clause = watching.plain().clauses().get(number);
     let places = watching.places(number);
-    match turn_of(watching.plain().assigned(), clause, places, gone) {
-        ClauseTurn::Holds(other) => {
+    match watch_update_of(watching.plain().assigned(), clause, places, gone) {
+        WatchUpdate::Holds(other) => {
             watching.put(gone, at, watch.blocked_by(other));
-            return Ok(WatchMet::Stays);
+            return Ok(WatchOutcome::Stays);
         }
-        ClauseTurn::Moves(moved) => return rewatch(watching, gone, at, watch, moved),
-        ClauseTurn::Leaves(other) => return Ok(keep_on(watching, gone, at, watch, other)),
-        ClauseTurn::Lost => {
-            watching.shelve(gone, at, number)?;
-            return Ok(WatchMet::Leaves);
+        WatchUpdate::Moves(moved) => return rewatch(watching, gone, at, watch, moved),
+        WatchUpdate::Leaves(other) => return Ok(keep_watch(watching, gone, at, watch, other)),
+        WatchUpdate::Lost => {
+            watching.defer_clause(gone, at, number)?;
+            return Ok(WatchOutcome::Leaves);
         }
     }
 }
 
 // Names the clause's remaining literal in its watch, and forces that literal.
-fn keep_on(watching: &mut Watching, gone: Lit, at: usize, watch: Watch, other: Lit) -> WatchMet
+fn keep_watch(
+    watching: &mut Watching,
+    gone: Lit,
+    at: usize,
+    watch: Watch,
+    other: Lit,
+) -> WatchOutcome
     requires next { IsNextLong watching.old gone at watch }
     requires other { LitWithin watching.old.trail.clauses.vars other }
-    requires watchful { IsWatchful watching.old }
-    requires only { LeavesOnly (lits_of watching.old.trail.entries) (clause_of watching.old.trail.clauses.list (watch.clause - 1)) other }
+    requires watch_invariant { IsWatchInvariant watching.old }
+    requires only { AllButOneFalse (lits_of watching.old.trail.entries) (clause_of watching.old.trail.clauses.list (watch.clause - 1)) other }
     requires unknown { has_lit (lits_of watching.old.trail.entries) other ≡ false }
     ensures clauses { watching.new.trail.clauses ≡ watching.old.trail.clauses }
     ensures head { watching.new.head ≡ watching.old.head }
     ensures grows { Grows watching.old.trail.entries watching.new.trail.entries }
-    ensures met { MetIs watching.old watching.new gone at result }
+    ensures met { WatchOutcomeIs watching.old watching.new gone at result }
 {
     let named = watch.blocked_by(other);
     watching.put(gone, at, named);
-    follow(watching, gone, at, named, other)
+    force_open(watching, gone, at, named, other)
 }
 
 // Makes the clause of a watch watch another literal.
@@ -196,36 +202,36 @@ fn rewatch(
     at: usize,
     watch: Watch,
     moved: Moved,
-) -> Result<WatchMet, NoMemory>
+) -> Result<WatchOutcome, NoMemory>
     requires next { IsNextLong watching.old gone at watch }
-    requires watchful { IsWatchful watching.old }
+    requires watch_invariant { IsWatchInvariant watching.old }
     requires lit { LitWithin watching.old.trail.clauses.vars moved.lit }
     requires other { LitWithin watching.old.trail.clauses.vars moved.other }
     requires gone { has_lit (lits_of watching.old.trail.entries) (opposite gone) ≡ true }
-    requires moved { IsMove (lits_of watching.old.trail.entries) (clause_of watching.old.trail.clauses.list (watch.clause - 1)) (places_of watching.old.places (watch.clause - 1)) gone moved }
+    requires moved { IsWatchMove (lits_of watching.old.trail.entries) (clause_of watching.old.trail.clauses.list (watch.clause - 1)) (places_of watching.old.places (watch.clause - 1)) gone moved }
     ensures trail { watching.new.trail ≡ watching.old.trail }
     ensures head { watching.new.head ≡ watching.old.head }
-    ensures met { IfOk result (MetIs watching.old watching.new gone at) }
+    ensures met { IfOk result (WatchOutcomeIs watching.old watching.new gone at) }
 {
-    watching.hang(moved.lit, watch.blocked_by(moved.other))?;
-    watching.leave(gone, at, watch.clause as u64, moved);
-    Ok(WatchMet::Leaves)
+    watching.add_watch(moved.lit, watch.blocked_by(moved.other))?;
+    watching.drop_watch(gone, at, watch.clause as u64, moved);
+    Ok(WatchOutcome::Leaves)
 }
 
 // Visits each pending clause, and then makes each that can be watched watch two literals.
-fn review(watching: &mut Watching) -> Result<PropagationStep, NoMemory>
+fn visit_pending(watching: &mut Watching) -> Result<PropagationStep, NoMemory>
     requires { watching.old.head ≡ length watching.old.trail.entries }
     ensures clauses { watching.new.trail.clauses ≡ watching.old.trail.clauses }
     ensures grows { Grows watching.old.trail.entries watching.new.trail.entries }
     ensures step { IfOk result (PropagationStepIs watching.old watching.new) }
 {
-    let pass = look_again(watching);
-    take_up_all(watching)?;
+    let pass = scan_pending(watching);
+    watch_all_pending(watching)?;
     Ok(pass)
 }
 
 // Visits each pending clause.
-fn look_again(watching: &mut Watching) -> PropagationStep
+fn scan_pending(watching: &mut Watching) -> PropagationStep
     requires { watching.old.head ≡ length watching.old.trail.entries }
     ensures clauses { watching.new.trail.clauses ≡ watching.old.trail.clauses }
     ensures head { watching.new.head ≡ watching.old.head }
@@ -236,10 +242,10 @@ fn look_again(watching: &mut Watching) -> PropagationStep
     for at in 0..watching.pending() {
         let number = watching.waiting(at);
         let plain = watching.plain();
-        match look_at(plain.assigned(), plain.clauses().get(number)) {
-            ClauseLook::False => return PropagationStep::Found(Conflict { clause: number }),
-            ClauseLook::Forces(lit) => watching.force(lit, number),
-            ClauseLook::Settled => {}
+        match clause_status_of(plain.assigned(), plain.clauses().get(number)) {
+            ClauseStatus::False => return PropagationStep::Found(Conflict { clause: number }),
+            ClauseStatus::Forces(lit) => watching.force(lit, number),
+            ClauseStatus::Settled => {}
         }
     }
     let plain = watching.plain();
@@ -252,13 +258,13 @@ fn look_again(watching: &mut Watching) -> PropagationStep
 }
 
 // Makes each pending clause that can be watched watch two literals, and drops each that is true at level 0.
-fn take_up_all(watching: &mut Watching) -> Result<(), NoMemory>
+fn watch_all_pending(watching: &mut Watching) -> Result<(), NoMemory>
     ensures trail { watching.new.trail ≡ watching.old.trail }
     ensures head { watching.new.head ≡ watching.old.head }
 {
     let mut at = 0;
     while at < watching.pending() {
-        if !take_up(watching, at)? {
+        if !watch_pending(watching, at)? {
             at += 1;
         }
     }
@@ -266,7 +272,7 @@ fn take_up_all(watching: &mut Watching) -> Result<(), NoMemory>
 }
 
 // Returns whether the clause is no longer pending.
-fn take_up(watching: &mut Watching, at: usize) -> Result<bool, NoMemory>
+fn watch_pending(watching: &mut Watching, at: usize) -> Result<bool, NoMemory>
     requires { at < length watching.old.pending }
     ensures trail { watching.new.trail ≡ watching.old.trail }
     ensures head { watching.new.head ≡ watching.old.head }
@@ -276,10 +282,10 @@ fn take_up(watching: &mut Watching, at: usize) -> Result<bool, NoMemory>
     let plain = watching.plain();
     let clause = plain.clauses().get(number);
     if plain.level() == 0 && has_true(plain.assigned(), clause) {
-        watching.forget(at, number);
+        watching.retire_clause(at, number);
         return Ok(true);
     }
-    match good_places(plain, clause) {
+    match watchable_places(plain, clause) {
         Some(places) => return watch_two(watching, at, number, places),
         None => return Ok(false),
     }
@@ -292,9 +298,9 @@ fn watch_two(
     number: u64,
     places: WatchPlaces,
 ) -> Result<bool, NoMemory>
-    requires waits { IsWaiting watching.old at number }
+    requires waits { IsPendingAt watching.old at number }
     requires number { IsNumber (length watching.old.trail.clauses.list) number }
-    requires good { AreGood watching.old.trail.entries (clause_of watching.old.trail.clauses.list (number - 1)) places }
+    requires watchable { AreWatchable watching.old.trail.entries (clause_of watching.old.trail.clauses.list (number - 1)) places }
     ensures trail { watching.new.trail ≡ watching.old.trail }
     ensures head { watching.new.head ≡ watching.old.head }
     ensures left { IfOk result (λ gone. length watching.new.pending + (if gone then 1 else 0) ≡ length watching.old.pending) }
@@ -309,8 +315,8 @@ fn watch_two(
     let Some(two) = Watch::of(number, first, pair) else {
         return Ok(false);
     };
-    watching.hang(first, one)?;
-    watching.hang(second, two)?;
-    watching.settle(at, number, places);
+    watching.add_watch(first, one)?;
+    watching.add_watch(second, two)?;
+    watching.mark_watched(at, number, places);
     Ok(true)
 }

@@ -7,14 +7,14 @@ ghost use Rattle.clause_db.specs.Clauses.{LitWithin, ClausesWithin};
 ghost use Rattle.trail_prop.specs.Entries.{lits_of, level_of};
 ghost use Rattle.trail_prop.specs.Open.{LitsWithin, value_known, IsComplete};
 ghost use Rattle.trail_prop.specs.Trails.{forced_at, IsFalseAt, Grows, is_up_to};
-ghost use Rattle.trail_prop.specs.Turn.{IsMove};
-ghost use Rattle.trail_prop.specs.Watching.{WatchFits, IsNumber, IsWatchOf, IsWaiting, IsWatched, IsFixed, IsWatchful, watches_at, watches_of, waits, clause_of, places_of, AllWait, StandsAt};
-ghost use Rattle.trail_prop.specs.Steps.{onto, relisted, Shrinks, IsWatchHeld, NextIs};
+ghost use Rattle.trail_prop.specs.WatchUpdate.{IsWatchMove};
+ghost use Rattle.trail_prop.specs.Watching.{WatchFits, IsNumber, IsWatchOf, IsPendingAt, IsWatched, IsFixed, IsWatchInvariant, watches_at, watches_of, pending_count, clause_of, places_of, AllPending, IsHeadOpposite};
+ghost use Rattle.trail_prop.specs.Steps.{with_trail, with_watch_list, Shrinks, IsWatchHeld, NextIs};
 
 use crate::assignment::code;
 use crate::entry::{Conflict, TrailEntry};
 use crate::plain::PlainTrail;
-use crate::turn::{Moved, WatchPlaces};
+use crate::watch_update::{Moved, WatchPlaces};
 use crate::watches::{Watch, Watches};
 use clause_db::list::ClauseList;
 use clause_db::lit::Lit;
@@ -33,18 +33,18 @@ pub(crate) struct Watching {
 }
 
 impl Model for Watching {
-    ghost use Rattle.trail_prop.specs.Watching.{WatchView, IsWatchful};
+    ghost use Rattle.trail_prop.specs.Watching.{WatchView, IsWatchInvariant};
 
     ghost Value = { WatchView };
 
     ghost view = { λ w. record { trail = w.plain; lists = w.watches; places = w.places.items; pending = w.pending.items; head = w.head } };
 
-    ghost invariant = { λ w. IsWatchful (record { trail = w.plain; lists = w.watches; places = w.places.items; pending = w.pending.items; head = w.head }) };
+    ghost invariant = { λ w. IsWatchInvariant (record { trail = w.plain; lists = w.watches; places = w.places.items; pending = w.pending.items; head = w.head }) };
 }
 
 // Returns the numbers 1 to `count`.
 fn all_numbers(alloc: Global, count: u64) -> Result<Vec<u64>, NoMemory>
-    ensures { IfOk result (λ numbers. AllWait count numbers.items) }
+    ensures { IfOk result (λ numbers. AllPending count numbers.items) }
 {
     let mut numbers = Vec::new(alloc);
     for at in 0..count {
@@ -87,7 +87,7 @@ impl Watching {
     /// Lends the trail without its watches.
     pub(crate) fn plain(&self) -> &PlainTrail
         ensures plain { result.now ≡ self.now.trail }
-        ensures watchful { IsWatchful self.now }
+        ensures watch_invariant { IsWatchInvariant self.now }
     {
         &self.plain
     }
@@ -141,7 +141,7 @@ impl Watching {
     /// Returns the number of the pending clause at a place.
     pub(crate) fn waiting(&self, at: usize) -> u64
         requires { at < length self.now.pending }
-        ensures waits { IsWaiting self.now at result }
+        ensures waits { IsPendingAt self.now at result }
         ensures number { IsNumber (length self.now.trail.clauses.list) result }
     {
         self.pending[at]
@@ -195,7 +195,7 @@ impl Watching {
     /// Appends a literal that a clause forces.
     pub(crate) fn force(&mut self, lit: Lit, number: u64)
         requires { forced_at (lits_of self.old.trail.entries) (clause_at self.old.trail.clauses.list number) ≡ Some lit }
-        ensures pushed { self.new ≡ onto self.old (record { clauses = self.old.trail.clauses; entries = self.old.trail.entries ++ record { lit = lit; level = level_of self.old.trail.entries; reason = Some number } ∷ [] }) }
+        ensures pushed { self.new ≡ with_trail self.old (record { clauses = self.old.trail.clauses; entries = self.old.trail.entries ++ record { lit = lit; level = level_of self.old.trail.entries; reason = Some number } ∷ [] }) }
         ensures room { length self.new.trail.entries ≤ self.new.trail.clauses.vars }
     {
         self.plain.force(lit, number);
@@ -203,7 +203,7 @@ impl Watching {
 
     /// Moves the head past its entry. Each clause that watches the entry's opposite must have a true literal.
     pub(crate) fn advance(&mut self, gone: Lit)
-        requires stands { StandsAt self.old.trail.entries self.old.head (level_of self.old.trail.entries) gone }
+        requires stands { IsHeadOpposite self.old.trail.entries self.old.head (level_of self.old.trail.entries) gone }
         requires held { All (IsWatchHeld self.old) (watches_at self.old.lists gone) }
         ensures trail { self.new.trail ≡ self.old.trail }
         ensures head { self.new.head ≡ self.old.head + 1 }
@@ -219,16 +219,16 @@ impl Watching {
     pub(crate) fn put(&mut self, gone: Lit, at: usize, watch: Watch)
         requires stands { IsWatchOf self.old gone at watch.clause }
         requires fits { WatchFits self.old.trail.clauses.list gone watch }
-        ensures { self.new ≡ relisted self.old gone (slice_set (watches_at self.old.lists gone) at watch) }
+        ensures { self.new ≡ with_watch_list self.old gone (slice_set (watches_at self.old.lists gone) at watch) }
     {
         self.watches.set(code(gone), at, watch);
     }
 
     /// Appends a watch to a literal's. Fails only if memory runs out.
-    pub(crate) fn hang(&mut self, lit: Lit, watch: Watch) -> Result<(), NoMemory>
+    pub(crate) fn add_watch(&mut self, lit: Lit, watch: Watch) -> Result<(), NoMemory>
         requires within { LitWithin self.old.trail.clauses.vars lit }
         requires fits { WatchFits self.old.trail.clauses.list lit watch }
-        ensures hung { OnOk result (self.new ≡ relisted self.old lit (watches_at self.old.lists lit ++ watch ∷ [])) }
+        ensures watch_added { OnOk result (self.new ≡ with_watch_list self.old lit (watches_at self.old.lists lit ++ watch ∷ [])) }
         ensures unchanged { OnErr result (self.new ≡ self.old) }
     {
         self.watches.push(code(lit), watch)?;
@@ -236,7 +236,7 @@ impl Watching {
     }
 
     /// Makes the clause of a watch pending, and removes the watch. Fails only if memory runs out.
-    pub(crate) fn shelve(&mut self, gone: Lit, at: usize, number: u64) -> Result<(), NoMemory>
+    pub(crate) fn defer_clause(&mut self, gone: Lit, at: usize, number: u64) -> Result<(), NoMemory>
         requires stands { IsWatchOf self.old gone at number }
         requires number { IsNumber (length self.old.trail.clauses.list) number }
         ensures shrinks { OnOk result (Shrinks self.old self.new gone at) }
@@ -248,14 +248,14 @@ impl Watching {
     }
 
     /// Removes a watch whose clause watches another literal from now on.
-    pub(crate) fn leave(&mut self, gone: Lit, at: usize, number: u64, moved: Moved)
+    pub(crate) fn drop_watch(&mut self, gone: Lit, at: usize, number: u64, moved: Moved)
         requires stands { IsWatchOf self.old gone at number }
         requires number { IsNumber (length self.old.trail.clauses.list) number }
         requires gone { has_lit (lits_of self.old.trail.entries) (opposite gone) ≡ true }
-        requires moved { IsMove (lits_of self.old.trail.entries) (clause_of self.old.trail.clauses.list (number - 1)) (places_of self.old.places (number - 1)) gone moved }
+        requires moved { IsWatchMove (lits_of self.old.trail.entries) (clause_of self.old.trail.clauses.list (number - 1)) (places_of self.old.places (number - 1)) gone moved }
         requires lit { LitWithin self.old.trail.clauses.vars moved.lit }
         requires other { LitWithin self.old.trail.clauses.vars moved.other }
-        requires hung { 0 < watches_of number (watches_at self.old.lists moved.lit) }
+        requires watch_added { 0 < watches_of number (watches_at self.old.lists moved.lit) }
         ensures { Shrinks self.old self.new gone at }
     {
         self.places[(number - 1) as usize] = moved.places;
@@ -263,8 +263,8 @@ impl Watching {
     }
 
     /// Removes a pending clause that is true at level 0.
-    pub(crate) fn forget(&mut self, at: usize, number: u64)
-        requires waits { IsWaiting self.old at number }
+    pub(crate) fn retire_clause(&mut self, at: usize, number: u64)
+        requires waits { IsPendingAt self.old at number }
         requires fixed { IsFixed self.old.trail.entries (clause_of self.old.trail.clauses.list (number - 1)) }
         ensures trail { self.new.trail ≡ self.old.trail }
         ensures head { self.new.head ≡ self.old.head }
@@ -274,8 +274,8 @@ impl Watching {
     }
 
     /// Removes a pending clause that is watched from now on.
-    pub(crate) fn settle(&mut self, at: usize, number: u64, places: WatchPlaces)
-        requires waits { IsWaiting self.old at number }
+    pub(crate) fn mark_watched(&mut self, at: usize, number: u64, places: WatchPlaces)
+        requires waits { IsPendingAt self.old at number }
         requires number { IsNumber (length self.old.trail.clauses.list) number }
         requires watched { IsWatched self.old.trail.entries self.old.head self.old.lists number (clause_of self.old.trail.clauses.list (number - 1)) places }
         ensures trail { self.new.trail ≡ self.old.trail }

@@ -9,9 +9,9 @@ use Rattle.auction_core.specs.declared.record.Step.{Step}
 use Rattle.auction_core.specs.declared.record.Record.{Record}
 use Rattle.auction_core.specs.declared.record.Ending.TheVariants.{Done}
 use Rattle.auction_core.specs.State.{CoreState, settled, shows_room, test_of}
-use Rattle.auction_core.specs.Backed.{undecided_of, AreShown, after_start, after_steps, ending_of, IsCarriedThrough, IsEnded, IsBacked}
+use Rattle.auction_core.specs.Backed.{undecided_of, AreShown, after_start, after_steps, ending_of, IsCompleted, IsEnded, IsBacked}
 use Rattle.auction_core.specs.Rule.{IsAuction}
-use Rattle.auction_core.specs.Walked.{IsWalked}
+use Rattle.auction_core.specs.ClockProgress.{IsClockProgress}
 use Rattle.auction_core.proofs.Sets.{fits-stand-first}
 use Rattle.auction_core.proofs.Starts.{start-map}
 use Rattle.auction_core.proofs.Steps.{after_steps-steps}
@@ -26,7 +26,7 @@ use Rattle.auction_core.proofs.StartFaults.{start-shown, start-none, start-walk,
 
 -- ---- the complete transcript
 
-carried : (sc : Scenario) (book : BookView) (t : Transcript) → IsWalked sc book t.start (after_steps sc (after_start sc t.order t.start) (steps_in t.steps)) (clock_tests sc t.order) → IsCarriedThrough sc book t.order (transcript_record sc book t)
+carried : (sc : Scenario) (book : BookView) (t : Transcript) → IsClockProgress sc book t.start (after_steps sc (after_start sc t.order t.start) (steps_in t.steps)) (clock_tests sc t.order) → IsCompleted sc book t.order (transcript_record sc book t)
 unfolding clock_rule asked_tests
 carried sc book t w =
     let first : CoreState = after_start sc t.order t.start in
@@ -47,7 +47,7 @@ shown-sound sc book t a e =
     let start = start-shown sc book t.start parts.0 in
     let f = followed sc book t.start 1 (after_start sc t.order t.start) [] (clock_tests sc t.order) t.steps a (start-walk sc book t.order t.start a start.0 (done-room t.start start.1)) refl parts.1 in
     record {
-      backed = record { scenario = refl; order_is = refl; start = start.0; ending = sym start.1; rest = carried sc book t f.walked };
+      backed = record { scenario = refl; order_is = refl; start = start.0; ending = sym start.1; rest = carried sc book t f.progress };
       numbered = f.numbered;
     }
 
@@ -55,7 +55,7 @@ pub sound-shown : (sc : Scenario) (book : BookView) (t : Transcript) → IsAucti
 unfolding not_shown clock_rule asked_tests
 sound-shown sc book t a h =
     let b : IsBacked sc book t.order (transcript_record sc book t) = h.backed in
-    let c : IsCarriedThrough sc book t.order (transcript_record sc book t) = b.rest in
+    let c : IsCompleted sc book t.order (transcript_record sc book t) = b.rest in
     let U : List ClockTest = undecided_of (steps_in t.steps) in
     let ending : ending_of t.start ≡ Done = sym b.ending in
     let apart : TestsApart (map test_of (steps_in t.steps)) = subst TestsApart (sym c.tests) (asked-apart sc book U (clock_tests sc t.order) (opening_state sc) (clock_apart sc t.order a.stations)) in
@@ -78,10 +78,10 @@ same-record a b p o q r s m n = λ i. record { scenario = p i; order = o i; endi
 
 -- The steps of a backed record of a finished auction are valid, in any list that has them as a transcript's steps.
 rule-walked : (sc : Scenario) (book : BookView) (rec : Record) → IsAuction sc book → IsBacked sc book rec.order rec → rec.ending ≡ Done
-    → IsWalked sc book rec.start (after_steps sc (after_start sc rec.order rec.start) rec.steps) (clock_tests sc rec.order)
+    → IsClockProgress sc book rec.start (after_steps sc (after_start sc rec.order rec.start) rec.steps) (clock_tests sc rec.order)
 unfolding clock_rule asked_tests
 rule-walked sc book rec a b done =
-    let c : IsCarriedThrough sc book rec.order rec = subst (IsEnded sc book rec.order rec) done b.rest in
+    let c : IsCompleted sc book rec.order rec = subst (IsEnded sc book rec.order rec) done b.rest in
     let U : List ClockTest = undecided_of rec.steps in
     let ending : ending_of rec.start ≡ Done = sym b.ending ∙ done in
     let room = done-room rec.start ending in
@@ -92,12 +92,12 @@ rule-walked sc book rec a b done =
     (ap (map test_of) e ∙ c.tests) (subst (AreShown sc book (after_start sc rec.order rec.start)) (sym e) c.shown) (numbered sc book (after_start sc rec.order rec.start) rec.steps)
     (subst (AreListed U) (sym e) (listed-shown rec.steps apart)) in
     let f = followed sc book rec.start 1 (after_start sc rec.order rec.start) [] (clock_tests sc rec.order) xs a (start-walk sc book rec.order rec.start a b.start room) refl none in
-    subst (λ (ys : List Step). IsWalked sc book rec.start (after_steps sc (after_start sc rec.order rec.start) ys) (clock_tests sc rec.order)) e f.walked
+    subst (λ (ys : List Step). IsClockProgress sc book rec.start (after_steps sc (after_start sc rec.order rec.start) ys) (clock_tests sc rec.order)) e f.progress
 
 pub same-again : (sc : Scenario) (book : BookView) (rec : Record) → IsAuction sc book → IsBacked sc book rec.order rec → rec.ending ≡ Done → transcript_record sc book (transcript_for sc book rec) ≡ rec
 unfolding transcript_for clock_rule asked_tests
 same-again sc book rec a b done =
-    let c : IsCarriedThrough sc book rec.order rec = subst (IsEnded sc book rec.order rec) done b.rest in
+    let c : IsCompleted sc book rec.order rec = subst (IsEnded sc book rec.order rec) done b.rest in
     let start = after_start sc rec.order rec.start in
     let e : steps_in (transcript_steps sc book (opening_state sc) rec.steps) ≡ rec.steps = same-steps sc book (opening_state sc) rec.steps in
     let w = rule-walked sc book rec a b done in

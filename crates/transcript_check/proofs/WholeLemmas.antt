@@ -13,7 +13,7 @@ use Rattle.auction_core.specs.declared.record.Ending.TheVariants.{Done}
 use Rattle.auction_core.specs.declared.transcript.Transcript.{Transcript}
 use Rattle.auction_core.specs.declared.transcript.TranscriptStep.{TranscriptStep}
 use Rattle.auction_core.specs.State.{CoreState, settled, test_of}
-use Rattle.auction_core.specs.Backed.{IsBacked, IsCarriedThrough, IsEnded, after_start, undecided_of}
+use Rattle.auction_core.specs.Backed.{IsBacked, IsCompleted, IsEnded, after_start, undecided_of}
 use Rattle.auction_core.specs.LogNumbers.{AreNumbered, steps_in}
 use Rattle.auction_core.specs.NotShown.{at_test, is_test, next_asked, not_shown, start_fault, step_fault, step_fault_or, steps_fault}
 use Rattle.auction_core.specs.Rule.{IsAuction}
@@ -22,9 +22,9 @@ use Rattle.auction_core.proofs.StepLemmas.{step-shown}
 use Rattle.auction_core.proofs.WalkLemmas.{step_or-parts}
 use Rattle.transcript_text.specs.Reading.{transcript_of}
 use Rattle.transcript_text.specs.Spelling.{spelling, transcript_for, transcript_steps, transcript_text}
-use Rattle.transcript_text.proofs.TextSaid.{transcript-said}
+use Rattle.transcript_text.proofs.TextReadLemmas.{transcript-said}
 use Rattle.transcript_check.specs.Sound.{transcript_record}
-use Rattle.transcript_check.proofs.BeginningLemmas.{if-none, no-test}
+use Rattle.transcript_check.proofs.PrefixLemmas.{if-none, no-test}
 use Rattle.transcript_check.proofs.RecordLemmas.{record-is}
 use Rattle.transcript_check.proofs.SoundLemmas.{shown-sound}
 
@@ -62,8 +62,8 @@ none-more sc book t rec more a e b done start steps =
     let V : List ClockTest = undecided_of all in
     let ts : List ClockTest = clock_tests sc t.order in
     let st : ClockState = opening_state sc in
-    let c : IsCarriedThrough sc book t.order (transcript_record sc book t) = (shown-sound sc book t a e).backed.rest in
-    let d : IsCarriedThrough sc book t.order rec = subst (IsEnded sc book t.order rec) done b.rest in
+    let c : IsCompleted sc book t.order (transcript_record sc book t) = (shown-sound sc book t a e).backed.rest in
+    let d : IsCompleted sc book t.order rec = subst (IsEnded sc book t.order rec) done b.rest in
     let mine : map test_of own ≡ asked_from sc book U ts st = c.tests in
     let theirs : map test_of all ≡ asked_from sc book V ts st = subst (λ (xs : List Step). map test_of xs ≡ asked_from sc book (undecided_of xs) ts st) steps d.tests in
     let apart : TestsApart ts = clock_apart sc t.order a.stations in

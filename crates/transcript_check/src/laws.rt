@@ -17,32 +17,32 @@ ghost use Rattle.auction_core.specs.NotShown.{not_kept, not_shown};
 ghost use Rattle.transcript_check.specs.Sound.{IsSound, transcript_record};
 
 /// A transcript is sound exactly if no step is the first one that is not shown.
-pub fn sound_where_all_is_shown()
+pub fn prove_sound_iff_all_shown()
     ensures shown { (sc : Scenario) (book : BookView) (t : Transcript) → IsAuction sc book → not_shown sc book t ≡ None → IsSound sc book t }
     ensures sound { (sc : Scenario) (book : BookView) (t : Transcript) → IsAuction sc book → IsSound sc book t → not_shown sc book t ≡ None }
 {}
 
 /// The transcript of a backed record of a finished auction is sound, and its record is that record.
-pub fn the_transcript_of_a_record()
+pub fn prove_record_transcript_is_sound()
     ensures sound { (sc : Scenario) (book : BookView) (rec : Record) → IsAuction sc book → IsBacked sc book rec.order rec → rec.ending ≡ Done → IsSound sc book (transcript_for sc book rec) }
     ensures same { (sc : Scenario) (book : BookView) (rec : Record) → IsAuction sc book → IsBacked sc book rec.order rec → rec.ending ≡ Done → transcript_record sc book (transcript_for sc book rec) ≡ rec }
 {}
 
 /// Any first bytes of a sound transcript's text are a beginning from which the auction can continue: every kept step
 /// is valid.
-pub fn an_auction_goes_on_from_any_beginning()
+pub fn prove_any_prefix_resumes()
     ensures { (sc : Scenario) (book : BookView) (before after : List ℕ) (t : Transcript) → transcript_of sc book (before ++ after) ≡ Ok t → not_shown sc book t ≡ None → MatchResult (prefix_of sc book before) (λ kept. not_kept sc book kept ≡ None) (λ why. ⊥) }
 {}
 
 /// A complete sound transcript leaves no test to run. A backed record of a finished auction that has the transcript's
 /// order and start, and begins with its steps, has no further steps. So it is the transcript's record.
-pub fn a_sound_transcript_leaves_nothing_to_ask()
+pub fn prove_sound_transcript_is_complete()
     ensures steps { (sc : Scenario) (book : BookView) (t : Transcript) (rec : Record) (more : List Step) → IsAuction sc book → not_shown sc book t ≡ None → IsBacked sc book t.order rec → rec.ending ≡ Done → rec.start ≡ t.start → rec.steps ≡ steps_in t.steps ++ more → more ≡ [] }
     ensures same { (sc : Scenario) (book : BookView) (t : Transcript) (rec : Record) (more : List Step) → IsAuction sc book → not_shown sc book t ≡ None → IsBacked sc book t.order rec → rec.ending ≡ Done → rec.start ≡ t.start → rec.steps ≡ steps_in t.steps ++ more → rec ≡ transcript_record sc book t }
 {}
 
 /// A sound transcript's text is the text of the record that it shows. The scenario's workers must be counted in 32
 /// bits.
-pub fn a_sound_transcript_is_its_records_text()
+pub fn prove_sound_transcript_is_record_text()
     ensures { (sc : Scenario) (book : BookView) (text : List ℕ) (t : Transcript) → length sc.workers < 2 ^ 32 → transcript_of sc book text ≡ Ok t → not_shown sc book t ≡ None → transcript_text sc book (transcript_record sc book t) ≡ text }
 {}

@@ -1,5 +1,5 @@
 //! The check of a complete transcript. The auction is run again, but each query is settled by the transcript's step
-//! once its certificate is accepted, so no solver is run. `follow_whole` of `auction_core` does this; the calls here
+//! once its certificate is accepted, so no solver is run. `check_whole_sequence` of `auction_core` does this; the calls here
 //! add the contract and the record.
 
 ghost use Rattle.std.specs.Prelude.{◌≡◌, IfErr, IfOk, None, Some};
@@ -9,7 +9,7 @@ ghost use Rattle.pack_defs.specs.Scenario.{with_owners};
 ghost use Rattle.transcript_check.specs.Sound.{IsSound, transcript_record};
 
 use crate::VerifyErr;
-use auction_core::follow::follow_whole;
+use auction_core::check_sequence::check_whole_sequence;
 use auction_core::record::Record;
 use auction_core::transcript::Transcript;
 use pack_defs::book::Book;
@@ -51,9 +51,9 @@ pub fn verify(
 {
     // Its contract has the book's order, which the laws need.
     book.keeps_order();
-    let clockwork = follow_whole(alloc, book, sc, transcript)?;
+    let query_session = check_whole_sequence(alloc, book, sc, transcript)?;
     let scenario = sc.copy(alloc)?;
-    let record = clockwork.into_record(alloc, scenario)?;
+    let record = query_session.into_record(alloc, scenario)?;
     Ok(record)
 }
 

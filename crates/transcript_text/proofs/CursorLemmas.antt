@@ -12,11 +12,11 @@ use Rattle.std.proofs.lemmas.List.{length-map}
 use Rattle.std.proofs.lemmas.List.Folds.{list_any_at}
 use Rattle.pack_defs.specs.Lists.{is_in, is_ascending}
 use Rattle.pack_defs.proofs.Searches.{found-at, found-no_key}
-use Rattle.lrat_text.specs.LogReading.{natural}
+use Rattle.lrat_text.specs.Read.{natural}
 use Rattle.pack_defs.specs.Lists.{is_empty}
-use Rattle.lrat_text.specs.Lines.{fields_of, pieces, is_space, onto_piece}
+use Rattle.lrat_text.specs.Lines.{fields_of, pieces, is_space, prepend_to_piece}
 use Rattle.transcript_text.specs.declared.error.TextErr.TheVariants.{BadLine}
-use Rattle.transcript_text.specs.Fields.{FieldsLeft, line_end}
+use Rattle.transcript_text.specs.Fields.{RemainingFields, line_end}
 
 -- A text always has a piece.
 pub some-piece : (p : ℕ → Bool) (xs : List ℕ) → is_empty (pieces p xs) ≡ false
@@ -24,7 +24,7 @@ unfolding pieces
 some-piece p [] = refl
 some-piece p (c ∷ xs) = go (p c) (pieces p xs)
   where
-    go : (b : Bool) (more : List (List ℕ)) → is_empty (if b then [] ∷ more else onto_piece c more) ≡ false
+    go : (b : Bool) (more : List (List ℕ)) → is_empty (if b then [] ∷ more else prepend_to_piece c more) ≡ false
     go true more = refl
     go false [] = refl
     go false (x ∷ more) = refl
@@ -43,7 +43,7 @@ pub left-gone : (left : Option (Bor (List ℕ))) → left ≡ None → left_fiel
 left-gone left e = rw e refl
 
 -- A line that has a rest has a field.
-pub fields-left : (line : FieldsLeft) (n : ℕ) (rest : List ℕ) → n ≡ line.number → line.fields ≡ fields_of rest → line_end line ≡ Err (BadLine n)
+pub fields-left : (line : RemainingFields) (n : ℕ) (rest : List ℕ) → n ≡ line.number → line.fields ≡ fields_of rest → line_end line ≡ Err (BadLine n)
 unfolding line_end
 fields-left line n rest e f = rw (f, some-piece is_space rest, e) refl
 

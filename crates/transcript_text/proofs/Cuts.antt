@@ -2,11 +2,11 @@
 use Rattle.std.proofs.Common.{◌≡◌, ◌<◌, ◌≤◌, ◌-◌, ◌==◌, ◌&&◌, ◌∙◌, ℕ, zero, suc, Bool, true, false, List, [], ◌∷◌, ◌++◌, refl, sym, ap, subst, append_assoc, append-nil, arith, take, drop, length, if◌then◌else◌}
 use Rattle.std.proofs.lemmas.List.{drop_all, length-drop, take-append-drop, take_all}
 use Rattle.pack_defs.specs.Lists.{is_empty}
-use Rattle.lrat_text.specs.Lines.{ended_lines, is_whole, onto_first_line}
+use Rattle.lrat_text.specs.Lines.{ended_lines, is_whole, prepend_to_first_line}
 use Rattle.transcript_text.specs.Pieces.{HasLinesOf}
 
 onto-append : (c : ℕ) (b : Bool) (lines more : List (List ℕ)) → (b ≡ false → is_empty lines ≡ false)
-    → (if b then [] ∷ (lines ++ more) else onto_first_line c (lines ++ more)) ≡ (if b then [] ∷ lines else onto_first_line c lines) ++ more
+    → (if b then [] ∷ (lines ++ more) else prepend_to_first_line c (lines ++ more)) ≡ (if b then [] ∷ lines else prepend_to_first_line c lines) ++ more
 onto-append c true lines more some = refl
 onto-append c false [] more some = absurd cc (some refl)
 onto-append c false (line ∷ lines) more some = refl
@@ -17,7 +17,7 @@ unfolding is_whole ended_lines
 some-line c [] w = rw w refl
 some-line c (d ∷ rest) w = go (c == 10) (ended_lines (d ∷ rest)) (some-line d rest w)
   where
-    go : (b : Bool) (lines : List (List ℕ)) → is_empty lines ≡ false → is_empty (if b then [] ∷ lines else onto_first_line c lines) ≡ false
+    go : (b : Bool) (lines : List (List ℕ)) → is_empty lines ≡ false → is_empty (if b then [] ∷ lines else prepend_to_first_line c lines) ≡ false
     go true lines h = refl
     go false [] h = h
     go false (line ∷ lines) h = refl
@@ -27,7 +27,7 @@ unfolding is_whole ended_lines
 lines-append [] more w = refl
 lines-append (c ∷ []) more w = rw w refl
 lines-append (c ∷ d ∷ rest) more w =
-    ap (λ (lines : List (List ℕ)). if c == 10 then [] ∷ lines else onto_first_line c lines) (lines-append (d ∷ rest) more w)
+    ap (λ (lines : List (List ℕ)). if c == 10 then [] ∷ lines else prepend_to_first_line c lines) (lines-append (d ∷ rest) more w)
     ∙ onto-append c (c == 10) (ended_lines (d ∷ rest)) (ended_lines more) (λ e. some-line d rest w)
 
 pub whole-append : (text more : List ℕ) → is_whole text ≡ true → is_whole (text ++ more) ≡ is_whole more
@@ -82,7 +82,7 @@ lines-stay [] more some = absurd cc some
 lines-stay (c ∷ rest) more some = go (c == 10) (ended_lines rest) (ended_lines (rest ++ more)) (lines-stay rest more) some
   where
     go : (b : Bool) (lines all : List (List ℕ)) → (is_empty lines ≡ false → is_empty all ≡ false)
-        → is_empty (if b then [] ∷ lines else onto_first_line c lines) ≡ false → is_empty (if b then [] ∷ all else onto_first_line c all) ≡ false
+        → is_empty (if b then [] ∷ lines else prepend_to_first_line c lines) ≡ false → is_empty (if b then [] ∷ all else prepend_to_first_line c all) ≡ false
     go true lines all stay h = refl
     go false [] all stay h = absurd cc h
     go false (line ∷ lines) [] stay h = absurd cc (stay refl)

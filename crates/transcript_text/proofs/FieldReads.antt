@@ -9,19 +9,19 @@ use Rattle.std.proofs.lemmas.Slice.Eq.{bytes_eq-Decides}
 use Rattle.pack_defs.specs.declared.scenario.Scenario.{Scenario}
 use Rattle.pack_defs.specs.Lists.{is_empty}
 use Rattle.std.specs.Fmt.{digits}
-use Rattle.lrat_text.specs.Lines.{ended_lines, line_of, onto_first_line}
+use Rattle.lrat_text.specs.Lines.{ended_lines, line_of, prepend_to_first_line}
 use Rattle.lrat_text.proofs.LineLemmas.{IsWord, IsField, AreFields, fields-line, fields-again}
 use Rattle.lrat_text.proofs.NumberLemmas.{decimal-field, natural-again}
-use Rattle.transcript_text.specs.Fields.{LinesLeft, FieldsLeft, next_line, is_plainly_spelled, plain_number, number_at, station_at, channel_at, worker_at, exactly_at, station_above, word_at, line_end, is_above, greatest_u32}
+use Rattle.transcript_text.specs.Fields.{RemainingLines, RemainingFields, next_line, is_plainly_spelled, plain_number, number_at, station_at, channel_at, worker_at, exact_number_at, station_above, word_at, line_end, is_above, greatest_u32}
 use Rattle.transcript_text.specs.Spelled.{IsStation, IsChannel, IsWorker}
 use Rattle.pack_defs.proofs.Words.{some-length}
 
 -- The complete lines of a text, the first with number `n`.
-abbrev pub lines_at : ℕ → List ℕ → LinesLeft
+abbrev pub lines_at : ℕ → List ℕ → RemainingLines
 lines_at n text = record { number = n; left = ended_lines text }
 
 -- These fields of line `n`.
-abbrev pub fields_at : ℕ → List (List ℕ) → FieldsLeft
+abbrev pub fields_at : ℕ → List (List ℕ) → RemainingFields
 fields_at n fields = record { number = n; fields = fields }
 
 -- ---- lines
@@ -36,7 +36,7 @@ unfolding ended_lines
 no-fewer [] ys = omega arith
 no-fewer (c ∷ xs) ys = go (c == 10) (ended_lines (xs ++ ys)) (no-fewer xs ys)
   where
-    go : (b : Bool) (lines : List (List ℕ)) → length (ended_lines ys) ≤ length lines → length (ended_lines ys) ≤ length (if b then [] ∷ lines else onto_first_line c lines)
+    go : (b : Bool) (lines : List (List ℕ)) → length (ended_lines ys) ≤ length lines → length (ended_lines ys) ≤ length (if b then [] ∷ lines else prepend_to_first_line c lines)
     go true lines h = omega (arith, h)
     go false [] h = h
     go false (line ∷ lines) h = h
@@ -106,8 +106,8 @@ pub number-again : (most n k : ℕ) (fields : List (List ℕ)) → k ≤ most �
 unfolding number_at
 number-again most n k fields le small = rw (plain-again most k le small) refl
 
-pub exactly-again : (n k : ℕ) (fields : List (List ℕ)) → k < 2 ^ 64 → exactly_at k (fields_at n (decimal k ∷ fields)) ≡ Ok (fields_at n fields)
-unfolding exactly_at
+pub exactly-again : (n k : ℕ) (fields : List (List ℕ)) → k < 2 ^ 64 → exact_number_at k (fields_at n (decimal k ∷ fields)) ≡ Ok (fields_at n fields)
+unfolding exact_number_at
 exactly-again n k fields small = rw (number-again k n k fields (omega arith) small, eq-eqb k k refl) refl
 
 pub station-again : (sc : Scenario) (n s : ℕ) (fields : List (List ℕ)) → IsStation sc s → station_at sc (fields_at n (decimal s ∷ fields)) ≡ Ok (s, fields_at n fields)

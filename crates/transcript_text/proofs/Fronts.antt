@@ -9,8 +9,8 @@ use Rattle.transcript_text.specs.declared.error.TextErr.{TextErr}
 use Rattle.transcript_text.specs.declared.error.TextErr.TheVariants.{Version, BadLine, Truncated, NoMemory}
 use Rattle.pack_defs.specs.Steps.{◌>>=◌}
 use Rattle.transcript_text.specs.Steps.{Fails}
-use Rattle.transcript_text.specs.Fields.{LinesLeft, FieldsLeft, next_line, plain_field, station_above}
-use Rattle.transcript_text.specs.LogLines.{lits_at, hints_at, hints_or, log_at, log_line, numbered_line, and_left, entries_at, entry_at, entry_line, moves_at, station_field, stations_at}
+use Rattle.transcript_text.specs.Fields.{RemainingLines, RemainingFields, next_line, plain_field, station_above}
+use Rattle.transcript_text.specs.LogLines.{lits_at, hints_at, hints_or, log_at, log_line, numbered_line, with_remaining, entries_at, entry_at, entry_line, moves_at, station_field, stations_at}
 use Rattle.std.specs.Prelude.{codes}
 use Rattle.cert_types.specs.declared.answer.Receipt.{Receipt}
 use Rattle.transcript_text.specs.Reading.{FoundReceipt, receipt_at, receipts_at}
@@ -129,84 +129,84 @@ hints-none front n fields total e so = sym so ∙ rw e refl
 -- ---- logs, entries and moves
 
 -- A line is read, and then the lines after it.
-tail-steps : {A B : Type 0} (r : Result (FieldsLeft × LinesLeft) TextErr) (one : FieldsLeft → Result A TextErr) (f : A → LinesLeft → Result B TextErr)
-    → ((r >>= λ next. and_left next.1 (one next.0)) >>= λ x. f x.0 x.1) ≡ (r >>= λ next. one next.0 >>= λ x. f x next.1)
+tail-steps : {A B : Type 0} (r : Result (RemainingFields × RemainingLines) TextErr) (one : RemainingFields → Result A TextErr) (f : A → RemainingLines → Result B TextErr)
+    → ((r >>= λ next. with_remaining next.1 (one next.0)) >>= λ x. f x.0 x.1) ≡ (r >>= λ next. one next.0 >>= λ x. f x next.1)
 tail-steps (Ok next) one f = go (one next.0)
   where
-    go : (r : Result _ TextErr) → (and_left next.1 r >>= λ x. f x.0 x.1) ≡ (r >>= λ x. f x next.1)
+    go : (r : Result _ TextErr) → (with_remaining next.1 r >>= λ x. f x.0 x.1) ≡ (r >>= λ x. f x next.1)
     go (Ok x) = refl
     go (Err e) = refl
 tail-steps (Err e) one f = refl
 
-pub log-step : (number k m : ℕ) (lines : LinesLeft) → k ≡ suc m → log_at number k lines ≡ (numbered_line number lines >>= λ r. log_at (number + 1) m r.1 >>= λ more. Ok (r.0 ∷ more.0, more.1))
+pub log-step : (number k m : ℕ) (lines : RemainingLines) → k ≡ suc m → log_at number k lines ≡ (numbered_line number lines >>= λ r. log_at (number + 1) m r.1 >>= λ more. Ok (r.0 ∷ more.0, more.1))
 unfolding log_at
 log-step number k m lines e = rw e (sym (tail-steps (next_line lines) (log_line number) (λ line left. log_at (number + 1) m left >>= λ more. Ok (line ∷ more.0, more.1))))
 
-pub log-none : (number k : ℕ) (lines : LinesLeft) → k ≡ 0 → log_at number k lines ≡ Ok ([], lines)
+pub log-none : (number k : ℕ) (lines : RemainingLines) → k ≡ 0 → log_at number k lines ≡ Ok ([], lines)
 unfolding log_at
 log-none number k lines e = rw e refl
 
-pub entries-step : (sc : Scenario) (above : Option ℕ) (k m : ℕ) (lines : LinesLeft) → k ≡ suc m
+pub entries-step : (sc : Scenario) (above : Option ℕ) (k m : ℕ) (lines : RemainingLines) → k ≡ suc m
     → entries_at sc above k lines ≡ (entry_line sc (codes "at") above lines >>= λ r. entries_at sc (Some r.0.0) m r.1 >>= λ more. Ok (r.0 ∷ more.0, more.1))
 unfolding entries_at
 entries-step sc above k m lines e = rw e (sym (tail-steps (next_line lines) (entry_at sc (codes "at") above) (λ entry left. entries_at sc (Some entry.0) m left >>= λ more. Ok (entry ∷ more.0, more.1))))
 
-pub entries-none : (sc : Scenario) (above : Option ℕ) (k : ℕ) (lines : LinesLeft) → k ≡ 0 → entries_at sc above k lines ≡ Ok ([], lines)
+pub entries-none : (sc : Scenario) (above : Option ℕ) (k : ℕ) (lines : RemainingLines) → k ≡ 0 → entries_at sc above k lines ≡ Ok ([], lines)
 unfolding entries_at
 entries-none sc above k lines e = rw e refl
 
-pub moves-step : (sc : Scenario) (k m : ℕ) (lines : LinesLeft) → k ≡ suc m
+pub moves-step : (sc : Scenario) (k m : ℕ) (lines : RemainingLines) → k ≡ suc m
     → moves_at sc k lines ≡ (entry_line sc (codes "move") None lines >>= λ r. moves_at sc m r.1 >>= λ more. Ok (r.0 ∷ more.0, more.1))
 unfolding moves_at
 moves-step sc k m lines e = rw e (sym (tail-steps (next_line lines) (entry_at sc (codes "move") None) (λ entry left. moves_at sc m left >>= λ more. Ok (entry ∷ more.0, more.1))))
 
-pub moves-none : (sc : Scenario) (k : ℕ) (lines : LinesLeft) → k ≡ 0 → moves_at sc k lines ≡ Ok ([], lines)
+pub moves-none : (sc : Scenario) (k : ℕ) (lines : RemainingLines) → k ≡ 0 → moves_at sc k lines ≡ Ok ([], lines)
 unfolding moves_at
 moves-none sc k lines e = rw e refl
 
 -- ---- the loops
 
-pub log-goes-on : (front : List Line) (line : Line) (number count i : ℕ) (rest after : LinesLeft) (total : Result (List Line × LinesLeft) TextErr) → i < count → numbered_line (number + i) rest ≡ Ok (line, after)
+pub log-goes-on : (front : List Line) (line : Line) (number count i : ℕ) (rest after : RemainingLines) (total : Result (List Line × RemainingLines) TextErr) → i < count → numbered_line (number + i) rest ≡ Ok (line, after)
     → in_front front (log_at (number + i) (count - i) rest) ≡ total → in_front (front ++ line ∷ []) (log_at (number + (i + 1)) (count - (i + 1)) after) ≡ total
 log-goes-on front line number count i rest after total l e so =
     let next : number + i + 1 ≡ number + (i + 1) = omega arith in
     subst (λ n. in_front (front ++ line ∷ []) (log_at n (count - (i + 1)) after) ≡ total) next
     (goes-on front line after (numbered_line (number + i) rest) (log_at (number + i + 1) (count - (i + 1))) (log_at (number + i) (count - i) rest) total (log-step (number + i) (count - i) (count - (i + 1)) rest (omega arith)) e so)
 
-pub log-stops : (front : List Line) (e : TextErr) (number count i : ℕ) (rest : LinesLeft) (total : Result (List Line × LinesLeft) TextErr) → i < count → Fails e (numbered_line (number + i) rest)
+pub log-stops : (front : List Line) (e : TextErr) (number count i : ℕ) (rest : RemainingLines) (total : Result (List Line × RemainingLines) TextErr) → i < count → Fails e (numbered_line (number + i) rest)
     → in_front front (log_at (number + i) (count - i) rest) ≡ total → Fails e total
 log-stops front e number count i rest total l fails so =
     stops-there front e (numbered_line (number + i) rest) (log_at (number + i + 1) (count - (i + 1))) (log_at (number + i) (count - i) rest) total (log-step (number + i) (count - i) (count - (i + 1)) rest (omega arith)) fails so
 
-pub log-ends : (front : List Line) (number count i : ℕ) (rest : LinesLeft) (total : Result (List Line × LinesLeft) TextErr) → count ≤ i → in_front front (log_at (number + i) (count - i) rest) ≡ total → total ≡ Ok (front, rest)
+pub log-ends : (front : List Line) (number count i : ℕ) (rest : RemainingLines) (total : Result (List Line × RemainingLines) TextErr) → count ≤ i → in_front front (log_at (number + i) (count - i) rest) ≡ total → total ≡ Ok (front, rest)
 log-ends front number count i rest total l so = ends front rest (log_at (number + i) (count - i) rest) total (log-none (number + i) (count - i) rest (omega arith)) so
 
-pub entries-goes-on : (sc : Scenario) (front : List (ℕ × ℕ)) (x : ℕ × ℕ) (above : Option ℕ) (count i : ℕ) (rest after : LinesLeft) (total : Result (List (ℕ × ℕ) × LinesLeft) TextErr) → i < count → entry_line sc (codes "at") above rest ≡ Ok (x, after)
+pub entries-goes-on : (sc : Scenario) (front : List (ℕ × ℕ)) (x : ℕ × ℕ) (above : Option ℕ) (count i : ℕ) (rest after : RemainingLines) (total : Result (List (ℕ × ℕ) × RemainingLines) TextErr) → i < count → entry_line sc (codes "at") above rest ≡ Ok (x, after)
     → in_front front (entries_at sc above (count - i) rest) ≡ total → in_front (front ++ x ∷ []) (entries_at sc (Some x.0) (count - (i + 1)) after) ≡ total
 entries-goes-on sc front x above count i rest after total l e so =
     front-more front x (entries_at sc (Some x.0) (count - (i + 1)) after)
     ∙ sym (ap (in_front front) (entries-step sc above (count - i) (count - (i + 1)) rest (omega arith) ∙ ap (λ r. r >>= λ r. entries_at sc (Some r.0.0) (count - (i + 1)) r.1 >>= λ more. Ok (r.0 ∷ more.0, more.1)) e)) ∙ so
 
-pub entries-stops : (sc : Scenario) (front : List (ℕ × ℕ)) (e : TextErr) (above : Option ℕ) (count i : ℕ) (rest : LinesLeft) (total : Result (List (ℕ × ℕ) × LinesLeft) TextErr) → i < count → Fails e (entry_line sc (codes "at") above rest)
+pub entries-stops : (sc : Scenario) (front : List (ℕ × ℕ)) (e : TextErr) (above : Option ℕ) (count i : ℕ) (rest : RemainingLines) (total : Result (List (ℕ × ℕ) × RemainingLines) TextErr) → i < count → Fails e (entry_line sc (codes "at") above rest)
     → in_front front (entries_at sc above (count - i) rest) ≡ total → Fails e total
 entries-stops sc front e above count i rest total l fails so =
-    stops {A = List (ℕ × ℕ) × LinesLeft} (λ r. Ok (front ++ r.0, r.1)) e (entries_at sc above (count - i) rest) total (sym so)
+    stops {A = List (ℕ × ℕ) × RemainingLines} (λ r. Ok (front ++ r.0, r.1)) e (entries_at sc above (count - i) rest) total (sym so)
     (stops (λ r. entries_at sc (Some r.0.0) (count - (i + 1)) r.1 >>= λ more. Ok (r.0 ∷ more.0, more.1)) e (entry_line sc (codes "at") above rest) (entries_at sc above (count - i) rest) (entries-step sc above (count - i) (count - (i + 1)) rest (omega arith)) fails)
 
-pub entries-ends : (sc : Scenario) (front : List (ℕ × ℕ)) (above : Option ℕ) (count i : ℕ) (rest : LinesLeft) (total : Result (List (ℕ × ℕ) × LinesLeft) TextErr) → count ≤ i → in_front front (entries_at sc above (count - i) rest) ≡ total → total ≡ Ok (front, rest)
+pub entries-ends : (sc : Scenario) (front : List (ℕ × ℕ)) (above : Option ℕ) (count i : ℕ) (rest : RemainingLines) (total : Result (List (ℕ × ℕ) × RemainingLines) TextErr) → count ≤ i → in_front front (entries_at sc above (count - i) rest) ≡ total → total ≡ Ok (front, rest)
 entries-ends sc front above count i rest total l so = ends front rest (entries_at sc above (count - i) rest) total (entries-none sc above (count - i) rest (omega arith)) so
 
-pub moves-goes-on : (sc : Scenario) (front : List (ℕ × ℕ)) (x : ℕ × ℕ) (count i : ℕ) (rest after : LinesLeft) (total : Result (List (ℕ × ℕ) × LinesLeft) TextErr) → i < count → entry_line sc (codes "move") None rest ≡ Ok (x, after)
+pub moves-goes-on : (sc : Scenario) (front : List (ℕ × ℕ)) (x : ℕ × ℕ) (count i : ℕ) (rest after : RemainingLines) (total : Result (List (ℕ × ℕ) × RemainingLines) TextErr) → i < count → entry_line sc (codes "move") None rest ≡ Ok (x, after)
     → in_front front (moves_at sc (count - i) rest) ≡ total → in_front (front ++ x ∷ []) (moves_at sc (count - (i + 1)) after) ≡ total
 moves-goes-on sc front x count i rest after total l e so =
     goes-on front x after (entry_line sc (codes "move") None rest) (moves_at sc (count - (i + 1))) (moves_at sc (count - i) rest) total (moves-step sc (count - i) (count - (i + 1)) rest (omega arith)) e so
 
-pub moves-stops : (sc : Scenario) (front : List (ℕ × ℕ)) (e : TextErr) (count i : ℕ) (rest : LinesLeft) (total : Result (List (ℕ × ℕ) × LinesLeft) TextErr) → i < count → Fails e (entry_line sc (codes "move") None rest)
+pub moves-stops : (sc : Scenario) (front : List (ℕ × ℕ)) (e : TextErr) (count i : ℕ) (rest : RemainingLines) (total : Result (List (ℕ × ℕ) × RemainingLines) TextErr) → i < count → Fails e (entry_line sc (codes "move") None rest)
     → in_front front (moves_at sc (count - i) rest) ≡ total → Fails e total
 moves-stops sc front e count i rest total l fails so =
     stops-there front e (entry_line sc (codes "move") None rest) (moves_at sc (count - (i + 1))) (moves_at sc (count - i) rest) total (moves-step sc (count - i) (count - (i + 1)) rest (omega arith)) fails so
 
-pub moves-ends : (sc : Scenario) (front : List (ℕ × ℕ)) (count i : ℕ) (rest : LinesLeft) (total : Result (List (ℕ × ℕ) × LinesLeft) TextErr) → count ≤ i → in_front front (moves_at sc (count - i) rest) ≡ total → total ≡ Ok (front, rest)
+pub moves-ends : (sc : Scenario) (front : List (ℕ × ℕ)) (count i : ℕ) (rest : RemainingLines) (total : Result (List (ℕ × ℕ) × RemainingLines) TextErr) → count ≤ i → in_front front (moves_at sc (count - i) rest) ≡ total → total ≡ Ok (front, rest)
 moves-ends sc front count i rest total l so = ends front rest (moves_at sc (count - i) rest) total (moves-none sc (count - i) rest (omega arith)) so
 
 -- ---- stations of a line
@@ -218,7 +218,7 @@ stations-step : (sc : Scenario) (n : ℕ) (above : Option ℕ) (field : List ℕ
 unfolding stations_at
 stations-step sc n above field fields more e = rw e (go (station_above sc above (record { number = n; fields = field ∷ [] })))
   where
-    go : (r : Result (ℕ × FieldsLeft) TextErr) → (r >>= λ s. stations_at sc n (Some s.0) more >>= λ rest. Ok (s.0 ∷ rest)) ≡ ((r >>= λ s. Ok s.0) >>= λ s. stations_at sc n (Some s) more >>= λ rest. Ok (s ∷ rest))
+    go : (r : Result (ℕ × RemainingFields) TextErr) → (r >>= λ s. stations_at sc n (Some s.0) more >>= λ rest. Ok (s.0 ∷ rest)) ≡ ((r >>= λ s. Ok s.0) >>= λ s. stations_at sc n (Some s) more >>= λ rest. Ok (s ∷ rest))
     go (Ok s) = refl
     go (Err e) = refl
 
@@ -240,38 +240,38 @@ stations-end sc n above front fields total e so = sym so ∙ rw e (ap (λ (xs : 
 
 -- ---- receipts
 
-abbrev pub both_in_front : List Receipt × List ℕ → Result ((List Receipt × List ℕ) × LinesLeft) TextErr → Result ((List Receipt × List ℕ) × LinesLeft) TextErr
+abbrev pub both_in_front : List Receipt × List ℕ → Result ((List Receipt × List ℕ) × RemainingLines) TextErr → Result ((List Receipt × List ℕ) × RemainingLines) TextErr
 both_in_front front read = read >>= λ x. Ok ((front.0 ++ x.0.0, front.1 ++ x.0.1), x.1)
 
-abbrev pub receipt_or : Scenario → ℕ → ℕ → LinesLeft → Result ((List Receipt × List ℕ) × LinesLeft) TextErr
+abbrev pub receipt_or : Scenario → ℕ → ℕ → RemainingLines → Result ((List Receipt × List ℕ) × RemainingLines) TextErr
 receipt_or sc worker m lines =
     receipt_at sc worker lines >>= λ found. receipts_at sc (worker + 1) m found.1 >>= λ rest. Ok ((found.0.receipt ∷ rest.0.0, found.0.first ∷ rest.0.1), rest.1)
 
-receipts-step : (sc : Scenario) (worker k m : ℕ) (lines : LinesLeft) → k ≡ suc m → receipts_at sc worker k lines ≡ receipt_or sc worker m lines
+receipts-step : (sc : Scenario) (worker k m : ℕ) (lines : RemainingLines) → k ≡ suc m → receipts_at sc worker k lines ≡ receipt_or sc worker m lines
 unfolding receipts_at
 receipts-step sc worker k m lines e = rw e refl
 
-both-more : (front : List Receipt × List ℕ) (found : FoundReceipt) (rest : Result ((List Receipt × List ℕ) × LinesLeft) TextErr)
+both-more : (front : List Receipt × List ℕ) (found : FoundReceipt) (rest : Result ((List Receipt × List ℕ) × RemainingLines) TextErr)
     → both_in_front (front.0 ++ found.receipt ∷ [], front.1 ++ found.first ∷ []) rest ≡ both_in_front front (rest >>= λ r. Ok ((found.receipt ∷ r.0.0, found.first ∷ r.0.1), r.1))
 both-more front found (Ok r) = rw (append_assoc front.0 (found.receipt ∷ []) r.0.0, append_assoc front.1 (found.first ∷ []) r.0.1) refl
 both-more front found (Err e) = refl
 
-pub receipts-goes-on : (sc : Scenario) (front next : List Receipt × List ℕ) (found : FoundReceipt) (count i : ℕ) (rest after : LinesLeft) (total : Result ((List Receipt × List ℕ) × LinesLeft) TextErr) → i < count
+pub receipts-goes-on : (sc : Scenario) (front next : List Receipt × List ℕ) (found : FoundReceipt) (count i : ℕ) (rest after : RemainingLines) (total : Result ((List Receipt × List ℕ) × RemainingLines) TextErr) → i < count
     → receipt_at sc i rest ≡ Ok (found, after) → next ≡ (front.0 ++ found.receipt ∷ [], front.1 ++ found.first ∷ []) → both_in_front front (receipts_at sc i (count - i) rest) ≡ total → both_in_front next (receipts_at sc (i + 1) (count - (i + 1)) after) ≡ total
 receipts-goes-on sc front next found count i rest after total l e n so =
     rw n (both-more front found (receipts_at sc (i + 1) (count - (i + 1)) after)
     ∙ sym (ap (both_in_front front) (receipts-step sc i (count - i) (count - (i + 1)) rest (omega arith) ∙ ap (λ r. r >>= λ found. receipts_at sc (i + 1) (count - (i + 1)) found.1 >>= λ rest. Ok ((found.0.receipt ∷ rest.0.0, found.0.first ∷ rest.0.1), rest.1)) e)) ∙ so)
 
-pub receipts-stop : (sc : Scenario) (front : List Receipt × List ℕ) (why : TextErr) (count i : ℕ) (rest : LinesLeft) (total : Result ((List Receipt × List ℕ) × LinesLeft) TextErr) → i < count
+pub receipts-stop : (sc : Scenario) (front : List Receipt × List ℕ) (why : TextErr) (count i : ℕ) (rest : RemainingLines) (total : Result ((List Receipt × List ℕ) × RemainingLines) TextErr) → i < count
     → Fails why (receipt_at sc i rest) → both_in_front front (receipts_at sc i (count - i) rest) ≡ total → Fails why total
 receipts-stop sc front why count i rest total l fails so =
-    stops {A = (List Receipt × List ℕ) × LinesLeft} (λ x. Ok ((front.0 ++ x.0.0, front.1 ++ x.0.1), x.1)) why (receipts_at sc i (count - i) rest) total (sym so)
+    stops {A = (List Receipt × List ℕ) × RemainingLines} (λ x. Ok ((front.0 ++ x.0.0, front.1 ++ x.0.1), x.1)) why (receipts_at sc i (count - i) rest) total (sym so)
     (stops (λ found. receipts_at sc (i + 1) (count - (i + 1)) found.1 >>= λ rest. Ok ((found.0.receipt ∷ rest.0.0, found.0.first ∷ rest.0.1), rest.1)) why (receipt_at sc i rest) (receipts_at sc i (count - i) rest) (receipts-step sc i (count - i) (count - (i + 1)) rest (omega arith)) fails)
 
-receipts-none : (sc : Scenario) (i k : ℕ) (rest : LinesLeft) → k ≡ 0 → receipts_at sc i k rest ≡ Ok (([], []), rest)
+receipts-none : (sc : Scenario) (i k : ℕ) (rest : RemainingLines) → k ≡ 0 → receipts_at sc i k rest ≡ Ok (([], []), rest)
 unfolding receipts_at
 receipts-none sc i k rest e = rw e refl
 
-pub receipts-end : (sc : Scenario) (front : List Receipt × List ℕ) (count i : ℕ) (rest : LinesLeft) (total : Result ((List Receipt × List ℕ) × LinesLeft) TextErr) → count ≤ i
+pub receipts-end : (sc : Scenario) (front : List Receipt × List ℕ) (count i : ℕ) (rest : RemainingLines) (total : Result ((List Receipt × List ℕ) × RemainingLines) TextErr) → count ≤ i
     → both_in_front front (receipts_at sc i (count - i) rest) ≡ total → total ≡ Ok (front, rest)
 receipts-end sc front count i rest total l so = sym so ∙ ap (both_in_front front) (receipts-none sc i (count - i) rest (omega arith)) ∙ rw (append-nil front.0, append-nil front.1) refl

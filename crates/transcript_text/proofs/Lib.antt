@@ -10,10 +10,10 @@ pub mod WriteLines
 pub mod OnAirLemmas
 pub mod TestSets
 pub mod Writes
-pub mod FieldSaid
-pub mod LineSaid
-pub mod StepSaid
-pub mod TextSaid
+pub mod FieldReadLemmas
+pub mod LineReadLemmas
+pub mod StepReadLemmas
+pub mod TextReadLemmas
 pub mod Sizes
 pub mod RecordSpelled
 pub mod RecordReads
@@ -23,5 +23,5 @@ pub mod Cuts
 pub mod Fed
 pub mod PrefixSteps
 pub mod PrefixLaws
-pub mod PrefixSaid
+pub mod PrefixReadLemmas
 pub mod NumeralLemmas

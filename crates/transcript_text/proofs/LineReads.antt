@@ -7,19 +7,19 @@ use Rattle.clause_db.specs.declared.lit.Lit.{Lit}
 use Rattle.rup_check.specs.declared.line.Line.{Line}
 use Rattle.lrat_text.specs.declared.field.Field.TheVariants.{End, Number}
 use Rattle.lrat_text.specs.Lines.{line_of}
-use Rattle.lrat_text.specs.LogText.{greatest, lit_text, zero_field, log_fields, log_text, IsLitSpelled}
+use Rattle.lrat_text.specs.Write.{greatest, lit_text, zero_field, log_fields, log_text, IsLitSpelled}
 use Rattle.lrat_text.proofs.LineLemmas.{IsField, AreFields, fields-append}
 use Rattle.lrat_text.proofs.NumberLemmas.{decimal-field, lit-again, number-again as field-number, zero-again}
 use Rattle.lrat_text.proofs.LogLemmas.{lits-fields, zero-fields}
 use Rattle.transcript_text.specs.declared.error.TextErr.{TextErr}
 use Rattle.transcript_text.specs.Spelling.{entry_text, at_lines}
-use Rattle.transcript_text.specs.Fields.{LinesLeft, plain_field, is_plainly_spelled, is_above, next_line}
+use Rattle.transcript_text.specs.Fields.{RemainingLines, plain_field, is_plainly_spelled, is_above, next_line}
 use Rattle.transcript_text.specs.LogLines.{lits_at, hints_at, log_line, log_at, entry_at, entries_at, moves_at, stations_at}
 use Rattle.transcript_text.specs.Spelled.{IsEntry, AreEntries, AreStations, IsHint, AreLines}
 use Rattle.transcript_text.proofs.FieldReads.{lines_at, fields_at, line-again, literal, word-again, end-again, decimal-plain, minus-plain, number-again, above-again, channel-again}
 
 -- Whether reading returns this value and leaves the lines of the rest.
-abbrev pub Reads : {A : Type 0} → Result (A × LinesLeft) TextErr → A → List ℕ → Type 0
+abbrev pub Reads : {A : Type 0} → Result (A × RemainingLines) TextErr → A → List ℕ → Type 0
 Reads result value rest = (m : ℕ) × (result ≡ Ok (value, lines_at m rest))
 
 -- ---- entries

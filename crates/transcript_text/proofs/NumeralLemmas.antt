@@ -8,8 +8,8 @@ use Rattle.std.proofs.lemmas.List.{take_all}
 use Rattle.std.specs.List.{slice_get}
 use Rattle.lrat_text.specs.declared.field.Field.TheVariants.{Number}
 use Rattle.lrat_text.specs.Lines.{fields_of, pieces, is_space}
-use Rattle.lrat_text.specs.LogReading.{field_of}
-use Rattle.lrat_text.specs.LogText.{greatest}
+use Rattle.lrat_text.specs.Read.{field_of}
+use Rattle.lrat_text.specs.Write.{greatest}
 use Rattle.lrat_text.proofs.DigitLemmas.{all-within}
 use Rattle.lrat_text.proofs.SplitLemmas.{piece-at, one-piece}
 use Rattle.transcript_text.specs.Fields.{IsNumeral, is_plainly_spelled, plain_field}

@@ -27,7 +27,7 @@ use Rattle.auction_core.proofs.Sets.{tested-rises, unasked-cases}
 use Rattle.result_text.proofs.ReplayLemmas.{auction-of}
 use Rattle.result_text.proofs.StepLemmas.{backed-next, carried-through}
 use Rattle.transcript_text.specs.Fields.{greatest_u32}
-use Rattle.transcript_text.specs.Named.{IsFitAscending, IsHeld, IsNamed}
+use Rattle.transcript_text.specs.RoundTrip.{IsFitAscending, IsHeld, IsNamed}
 use Rattle.transcript_text.specs.Reading.{transcript_of}
 use Rattle.transcript_text.specs.Spelled.{IsShownSpelled, IsSpelled, IsStartSpelled, IsStepSpelled}
 use Rattle.auction_core.specs.LogNumbers.{clauses_in, firsts_of}

@@ -31,16 +31,16 @@ use Rattle.cert_types.specs.declared.task.Task.{Task}
 use Rattle.cert_types.specs.Outside.{IsOutsideProof}
 use Rattle.cert_types.specs.Spent.{AreSpentLines}
 use Rattle.cert_types.specs.Valid.{IsValid}
-use Rattle.cert_types.specs.Walks.{AreSpentMoves, start_map}
+use Rattle.cert_types.specs.Moves.{AreSpentMoves, start_map}
 use Rattle.cert_types.proofs.Meaning.{dead-means, lines-means, moves-means, proof-means}
 use Rattle.cert_types.proofs.WalkLemmas.{troubled-there}
 use Rattle.auction_core.specs.declared.record.Shown.{Shown}
 use Rattle.auction_core.specs.declared.record.Shown.TheVariants.{Empty, Fits, Same, NoChannel, Refuted, Outside, Undecided}
 use Rattle.auction_core.specs.Backed.{AreReceipts, IsSettledBy}
-use Rattle.lrat_text.specs.LogText.{AreSpelled, IsBefore}
+use Rattle.lrat_text.specs.Write.{AreSpelled, IsBefore}
 use Rattle.lrat_text.proofs.Named.{follows-spelled}
 use Rattle.transcript_text.specs.Fields.{greatest_u32, is_above, most_counted}
-use Rattle.transcript_text.specs.Named.{IsFitAscending, IsNamed}
+use Rattle.transcript_text.specs.RoundTrip.{IsFitAscending, IsNamed}
 use Rattle.transcript_text.specs.Spelled.{AreEntries, AreLines, AreReceiptsSpelled, AreStations, IsEntry, IsHint, IsLog, IsOneLog, IsReceipt, IsRefutation, IsShownSpelled, IsStation}
 use Rattle.auction_core.specs.LogNumbers.{clauses_in, first_number, first_of, firsts_of}
 use Rattle.transcript_text.proofs.Sizes.{clauses-most, few-channels, no-longer, variables-most}
@@ -206,7 +206,7 @@ put-in x (y ∷ ys) z h = go (nat_lt x.0 y.0) (x.0 == y.0) refl (put-in x ys z) 
 moves-spelled : (sc : Scenario) (book : BookView) (entries moves : List (ℕ × ℕ)) → IsNamed sc book → ((z : ℕ) → has_station entries z ≡ true → is_in (facilities sc) z ≡ true) → AreSpentMoves book entries moves → AllByRecursion (IsEntry sc) moves
 moves-spelled sc book entries [] n known h = tt
 moves-spelled sc book entries (x ∷ xs) n known h =
-    let station = known x.0 (troubled-there book entries x.0 h.0.troubled) in (
+    let station = known x.0 (troubled-there book entries x.0 h.0.violating) in (
       (station-of sc book x.0 n station, n.channels x.0 x.1 h.0.on_domain),
       moves-spelled sc book (put x entries) xs n (λ z m. elim (put-in x entries z m) [ inl own ↦ subst (λ (y : ℕ). is_in (facilities sc) y ≡ true) own station | inr old ↦ known z old ]) h.1,
     )

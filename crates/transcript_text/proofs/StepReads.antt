@@ -10,7 +10,7 @@ use Rattle.cert_types.specs.declared.answer.Receipt.{Receipt}
 use Rattle.cert_types.specs.declared.answer.Receipt.TheVariants.{Lines, Moves}
 use Rattle.cert_types.specs.declared.answer.Refutation.TheVariants.{Dead as DeadPair}
 use Rattle.lrat_text.specs.Lines.{ended_lines, line_of}
-use Rattle.lrat_text.specs.LogText.{greatest, log_text, lit_text, zero_field}
+use Rattle.lrat_text.specs.Write.{greatest, log_text, lit_text, zero_field}
 use Rattle.lrat_text.proofs.LineLemmas.{IsField, AreFields}
 use Rattle.lrat_text.proofs.NumberLemmas.{decimal-field}
 use Rattle.transcript_text.specs.declared.head.StepTest.{StepTest}

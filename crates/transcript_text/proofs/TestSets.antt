@@ -12,8 +12,8 @@ use Rattle.pack_defs.proofs.Members.{is_in-from, is_in-gives}
 use Rattle.pack_defs.proofs.Chains.{ascending-filter}
 use Rattle.packing_graph.specs.Sets.{with_station}
 use Rattle.packing_graph.proofs.SetLemmas.{with_station-ascending, with_station-gives, with_station-has, with_station-keeps}
-use Rattle.auction_core.specs.declared.clock.Standing.{Standing}
-use Rattle.auction_core.specs.Clock.{AreStandings, on_air_by}
+use Rattle.auction_core.specs.declared.clock.StationStatus.{StationStatus}
+use Rattle.auction_core.specs.Clock.{AreStatuses, on_air_by}
 use Rattle.auction_core.specs.State.{tested_set}
 use Rattle.auction_core.proofs.Answers.{filter-in, in-filter}
 use Rattle.auction_core.proofs.ClockLemmas.{on_air_by-is}
@@ -36,7 +36,7 @@ with-station sc st s ascend there =
     ])
 
 -- The set found from the standings is the test's set.
-pub found-set : (sc : Scenario) (book : BookView) (standings : List Standing) (s : ℕ) (set : List ℕ) → StationsAscend sc → is_in (facilities sc) s ≡ true → set ≡ component book (with_station (on_air_by (facilities sc) standings) s) s
-    → (st : ClockState) → AreStandings sc st standings → set ≡ tested_set sc book st s
-found-set sc book standings s set ascend there found st are =
+pub found-set : (sc : Scenario) (book : BookView) (station_statuses : List StationStatus) (s : ℕ) (set : List ℕ) → StationsAscend sc → is_in (facilities sc) s ≡ true → set ≡ component book (with_station (on_air_by (facilities sc) station_statuses) s) s
+    → (st : ClockState) → AreStatuses sc st station_statuses → set ≡ tested_set sc book st s
+found-set sc book station_statuses s set ascend there found st are =
     found ∙ ap (λ on. component book (with_station on s) s) (on_air_by-is are) ∙ ap (λ all. component book all s) (with-station sc st s ascend there)

@@ -13,9 +13,9 @@ use Rattle.cert_types.specs.declared.answer.Refutation.{Refutation}
 use Rattle.cert_types.specs.declared.answer.Refutation.TheVariants.{Proof, Dead as DeadPair}
 use Rattle.cert_types.specs.declared.outside.OutsideProof.{OutsideProof}
 use Rattle.auction_core.specs.declared.record.Shown.{Shown}
-use Rattle.auction_core.specs.declared.record.Shown.TheVariants.{Empty, Fits, Same as LikeBefore, NoChannel as WithoutChannel, Refuted, Outside as ByOutside, Undecided as LeftOpen}
+use Rattle.auction_core.specs.declared.record.Shown.TheVariants.{Empty, Fits, Same as SameSet, NoChannel as WithoutChannel, Refuted, Outside as ByOutside, Undecided as LeftOpen}
 use Rattle.lrat_text.specs.Lines.{ended_lines, is_whole, line_of, with_spaces}
-use Rattle.lrat_text.specs.LogText.{log_text}
+use Rattle.lrat_text.specs.Write.{log_text}
 use Rattle.lrat_text.proofs.LineLemmas.{IsField, AreFields}
 use Rattle.lrat_text.proofs.NumberLemmas.{decimal-field}
 use Rattle.transcript_text.specs.declared.head.StepTest.{StepTest}
@@ -78,7 +78,7 @@ unfolding step_at
 dead-step sc book n t w p rest = (n, refl)
 
 same-step : (sc : Scenario) (book : BookView) (n : ℕ) (t : StepTest) (rest : List ℕ)
-    → Reads (step_at sc book (Same t) (lines_at n ([] ++ rest))) (Some (step_of t LikeBefore [])) rest
+    → Reads (step_at sc book (Same t) (lines_at n ([] ++ rest))) (Some (step_of t SameSet [])) rest
 unfolding step_at
 same-step sc book n t rest = (n, refl)
 
@@ -153,10 +153,10 @@ shown-read sc book steps n t (Fits delta) firsts rest small le s h =
     (fit-word, two t.round t.station (decimal (length delta) ∷ []) le s.1 (one (length delta) (omega (arith, h.0))))
     (fit-head sc steps n t (length delta) le s h.0)
     (fit-read sc book (n + 1) t delta rest h.1))
-shown-read sc book steps n t LikeBefore firsts rest small le s h =
-    subst (λ (ns : List ℕ). IsRead sc book steps n (head_line (codes "same") t.round t.station []) rest (step_of t LikeBefore ns)) (sym h)
-    (bare-parts sc book steps n (codes "same") (decimal t.round ∷ decimal t.station ∷ []) rest (step_of t LikeBefore [])
-    (from-parts sc book steps n (codes "same") (decimal t.round ∷ decimal t.station ∷ []) [] rest (Same t) (step_of t LikeBefore [])
+shown-read sc book steps n t SameSet firsts rest small le s h =
+    subst (λ (ns : List ℕ). IsRead sc book steps n (head_line (codes "same") t.round t.station []) rest (step_of t SameSet ns)) (sym h)
+    (bare-parts sc book steps n (codes "same") (decimal t.round ∷ decimal t.station ∷ []) rest (step_of t SameSet [])
+    (from-parts sc book steps n (codes "same") (decimal t.round ∷ decimal t.station ∷ []) [] rest (Same t) (step_of t SameSet [])
     (same-word, two t.round t.station [] le s.1 tt)
     (same-head sc steps n t le s)
     (same-step sc book (n + 1) t rest)))
@@ -239,7 +239,7 @@ start-read sc n (Fits delta) rest h =
       ap (λ text. start_at sc (lines_at n text)) (append_assoc (line_of (codes "start" ∷ codes "fit" ∷ decimal k ∷ [])) (at_lines delta) rest)
           ∙ rw (line, word-again n (codes "start") (codes "fit" ∷ decimal k ∷ []), number-again most_counted n k [] h.0 (omega (arith, h.0)), end-again n, more.1) refl,
     )
-start-read sc n LikeBefore rest h = absurd h
+start-read sc n SameSet rest h = absurd h
 start-read sc n (WithoutChannel s) rest h = absurd h
 start-read sc n (Refuted w how) rest h = absurd h
 start-read sc n (ByOutside proof) rest h = absurd h

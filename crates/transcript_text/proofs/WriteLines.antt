@@ -1,11 +1,11 @@
--- Lines that are written field by field, for the contracts of `parts`.
+-- Lines that are written field by field, for the contracts of `line_writers`.
 use Rattle.std.proofs.Common.{◌≡◌, ◌<◌, ◌≤◌, ◌+◌, ◌∙◌, ◌∷◌, ◌++◌, [], ℕ, List, sym, append_assoc, append-nil, decimal, drop, get_or, length, map}
 use Rattle.std.proofs.lemmas.List.{drop_all, drop_more}
 use Rattle.cert_types.specs.declared.answer.Receipt.{Receipt}
 use Rattle.auction_core.specs.LogNumbers.{first_of}
 use Rattle.transcript_text.specs.Spelling.{receipt_text, receipts_text}
 use Rattle.lrat_text.specs.Lines.{line_of}
-use Rattle.lrat_text.specs.LogText.{spaced}
+use Rattle.lrat_text.specs.Write.{spaced}
 use Rattle.lrat_text.proofs.WriteLemmas.{joined-spaced}
 
 -- A text with a word, numbers and a line end appended.

@@ -7,39 +7,39 @@ use Rattle.pack_defs.specs.declared.scenario.Scenario.{Scenario}
 use Rattle.pack_defs.specs.Scenario.{facilities}
 use Rattle.lrat_text.specs.declared.field.Field.{Field}
 use Rattle.lrat_text.specs.Lines.{fields_of}
-use Rattle.lrat_text.specs.LogReading.{natural, field_of}
-use Rattle.lrat_text.specs.LogText.{greatest}
+use Rattle.lrat_text.specs.Read.{natural, field_of}
+use Rattle.lrat_text.specs.Write.{greatest}
 use Rattle.transcript_text.specs.declared.error.TextErr.{TextErr}
 use Rattle.transcript_text.specs.declared.error.TextErr.TheVariants.{BadLine, Truncated}
 use Rattle.transcript_text.specs.declared.fields.TheConstants.{GREATEST_U32, MOST_COUNTED}
 use Rattle.pack_defs.specs.Steps.{◌>>=◌}
 
 -- The complete lines that are left of a text, and the number of the first of them.
-pub record LinesLeft : Type 0 where
+pub record RemainingLines : Type 0 where
   pub number : ℕ
   pub left : List (List ℕ)
 
 -- The fields that are left of a line, and the line's number.
-pub record FieldsLeft : Type 0 where
+pub record RemainingFields : Type 0 where
   pub number : ℕ
   pub fields : List (List ℕ)
 
 -- The fields of the first line, which has number `n`, and the lines after it; an error if no line is left.
-abbrev line_or : ℕ → List (List ℕ) → Result (FieldsLeft × LinesLeft) TextErr
+abbrev line_or : ℕ → List (List ℕ) → Result (RemainingFields × RemainingLines) TextErr
 line_or n [] = Err Truncated
 line_or n (line ∷ lines) = Ok (record { number = n; fields = fields_of line }, record { number = n + 1; left = lines })
 
 -- The fields of the next line, and the lines after it.
-abbrev pub next_line : LinesLeft → Result (FieldsLeft × LinesLeft) TextErr
+abbrev pub next_line : RemainingLines → Result (RemainingFields × RemainingLines) TextErr
 next_line lines = line_or lines.number lines.left
 
 -- The first field of line `n`, and the fields after it; an error if no field is left.
-abbrev field_or : ℕ → List (List ℕ) → Result (List ℕ × FieldsLeft) TextErr
+abbrev field_or : ℕ → List (List ℕ) → Result (List ℕ × RemainingFields) TextErr
 field_or n [] = Err (BadLine n)
 field_or n (field ∷ fields) = Ok (field, record { number = n; fields = fields })
 
 -- The next field, and the fields after it.
-abbrev pub next_field : FieldsLeft → Result (List ℕ × FieldsLeft) TextErr
+abbrev pub next_field : RemainingFields → Result (List ℕ × RemainingFields) TextErr
 next_field line = field_or line.number line.fields
 
 -- The value, with what is left after it; an error on line `n` if there is no value.
@@ -48,11 +48,11 @@ found_or n None rest = Err (BadLine n)
 found_or n (Some x) rest = Ok (x, rest)
 
 -- The check that no field is left.
-unfoldable pub line_end : FieldsLeft → Result (Unit {0}) TextErr
+unfoldable pub line_end : RemainingFields → Result (Unit {0}) TextErr
 line_end line = if is_empty line.fields then Ok tt else Err (BadLine line.number)
 
 -- The fields after the next one, which must be this word.
-unfoldable pub word_at : List ℕ → FieldsLeft → Result FieldsLeft TextErr
+unfoldable pub word_at : List ℕ → RemainingFields → Result RemainingFields TextErr
 word_at word line = do
   field ← next_field line
   if bytes_eq field.0 word then Ok field.1 else Err (BadLine line.number)
@@ -76,7 +76,7 @@ abbrev pub IsNumeral : List ℕ → ℕ → Type 0
 IsNumeral digits n = (0 < length digits) × (48 < get_or digits 0 0) × (all_ascii_digits digits ≡ true) × (natural greatest digits ≡ Some n) × (1 ≤ n)
 
 -- The number in the next field, up to `most`, and the fields after it.
-unfoldable pub number_at : ℕ → FieldsLeft → Result (ℕ × FieldsLeft) TextErr
+unfoldable pub number_at : ℕ → RemainingFields → Result (ℕ × RemainingFields) TextErr
 number_at most line = do
   field ← next_field line
   found_or line.number (plain_number most field.0) field.1
@@ -90,30 +90,30 @@ abbrev pub most_counted : ℕ
 most_counted = MOST_COUNTED
 
 -- A count of entries, log lines or moves, and the fields after it.
-abbrev pub count_at : FieldsLeft → Result (ℕ × FieldsLeft) TextErr
+abbrev pub count_at : RemainingFields → Result (ℕ × RemainingFields) TextErr
 count_at = number_at most_counted
 
 -- A station of the scenario, and the fields after it.
-unfoldable pub station_at : Scenario → FieldsLeft → Result (ℕ × FieldsLeft) TextErr
+unfoldable pub station_at : Scenario → RemainingFields → Result (ℕ × RemainingFields) TextErr
 station_at sc line = do
   s ← number_at greatest_u32 line
   if is_in (facilities sc) s.0 then Ok s else Err (BadLine line.number)
 
 -- A channel (14 to 51), and the fields after it.
-unfoldable pub channel_at : FieldsLeft → Result (ℕ × FieldsLeft) TextErr
+unfoldable pub channel_at : RemainingFields → Result (ℕ × RemainingFields) TextErr
 channel_at line = do
   c ← number_at GREATEST_CHANNEL line
   if nat_le LEAST_CHANNEL c.0 then Ok c else Err (BadLine line.number)
 
 -- The number of a worker of the scenario, and the fields after it.
-unfoldable pub worker_at : Scenario → FieldsLeft → Result (ℕ × FieldsLeft) TextErr
+unfoldable pub worker_at : Scenario → RemainingFields → Result (ℕ × RemainingFields) TextErr
 worker_at sc line = do
   w ← number_at greatest_u32 line
   if nat_lt w.0 (length sc.workers) then Ok w else Err (BadLine line.number)
 
 -- The fields after the next one, which must be this number.
-unfoldable pub exactly_at : ℕ → FieldsLeft → Result FieldsLeft TextErr
-exactly_at n line = do
+unfoldable pub exact_number_at : ℕ → RemainingFields → Result RemainingFields TextErr
+exact_number_at n line = do
   m ← number_at n line
   if m.0 == n then Ok m.1 else Err (BadLine line.number)
 
@@ -123,7 +123,7 @@ is_above None n = true
 is_above (Some m) n = nat_lt m n
 
 -- A station above the one before it, and the fields after it.
-unfoldable pub station_above : Scenario → Option ℕ → FieldsLeft → Result (ℕ × FieldsLeft) TextErr
+unfoldable pub station_above : Scenario → Option ℕ → RemainingFields → Result (ℕ × RemainingFields) TextErr
 station_above sc above line = do
   s ← station_at sc line
   if is_above above s.0 then Ok s else Err (BadLine line.number)

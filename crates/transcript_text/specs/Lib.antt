@@ -6,7 +6,7 @@ pub mod Fields
 pub mod LogLines
 pub mod Reading
 pub mod Spelled
-pub mod Named
+pub mod RoundTrip
 pub mod Pieces
 pub mod PrefixReading
 pub mod PrefixSpelling

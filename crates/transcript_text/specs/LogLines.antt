@@ -6,11 +6,11 @@ use Rattle.clause_db.specs.declared.lit.Lit.{Lit}
 use Rattle.rup_check.specs.declared.line.Line.{Line}
 use Rattle.lrat_text.specs.declared.field.Field.{Field}
 use Rattle.lrat_text.specs.declared.field.Field.TheVariants.{End, Number}
-use Rattle.lrat_text.specs.LogText.{greatest}
+use Rattle.lrat_text.specs.Write.{greatest}
 use Rattle.transcript_text.specs.declared.error.TextErr.{TextErr}
 use Rattle.transcript_text.specs.declared.error.TextErr.TheVariants.{BadLine}
 use Rattle.pack_defs.specs.Steps.{◌>>=◌}
-use Rattle.transcript_text.specs.Fields.{LinesLeft, FieldsLeft, next_line, line_end, word_at, plain_field, number_at, station_above, channel_at}
+use Rattle.transcript_text.specs.Fields.{RemainingLines, RemainingFields, next_line, line_end, word_at, plain_field, number_at, station_above, channel_at}
 
 -- The literals before a 0, and the fields after the 0, given the meaning of the first field and what the fields after
 -- it come to.
@@ -37,7 +37,7 @@ hints_at n [] = Err (BadLine n)
 hints_at n (field ∷ fields) = hints_or n (plain_field field) fields (hints_at n fields)
 
 -- A line of a log, which must have this number.
-unfoldable pub log_line : ℕ → FieldsLeft → Result Line TextErr
+unfoldable pub log_line : ℕ → RemainingFields → Result Line TextErr
 log_line number line = do
   own ← number_at greatest line
   lits ← (if own.0 == number then lits_at line.number own.1.fields else Err (BadLine line.number))
@@ -45,7 +45,7 @@ log_line number line = do
   Ok (record { lits = lits.0; hints = hints })
 
 -- A log of this many lines, numbered from this number on, and the lines after it.
-unfoldable pub log_at : ℕ → ℕ → LinesLeft → Result (List Line × LinesLeft) TextErr
+unfoldable pub log_at : ℕ → ℕ → RemainingLines → Result (List Line × RemainingLines) TextErr
 log_at number zero lines = Ok ([], lines)
 log_at number (suc k) lines = do
   next ← next_line lines
@@ -54,7 +54,7 @@ log_at number (suc k) lines = do
   Ok (line ∷ rest.0, rest.1)
 
 -- A station above the one before it, and a channel; nothing follows them.
-unfoldable pub entry_at : Scenario → List ℕ → Option ℕ → FieldsLeft → Result (ℕ × ℕ) TextErr
+unfoldable pub entry_at : Scenario → List ℕ → Option ℕ → RemainingFields → Result (ℕ × ℕ) TextErr
 entry_at sc word above line = do
   rest ← word_at word line
   s ← station_above sc above rest
@@ -63,7 +63,7 @@ entry_at sc word above line = do
   Ok (s.0, c.0)
 
 -- This many entries of a map, ascending by station from above this one, and the lines after them.
-unfoldable pub entries_at : Scenario → Option ℕ → ℕ → LinesLeft → Result (List (ℕ × ℕ) × LinesLeft) TextErr
+unfoldable pub entries_at : Scenario → Option ℕ → ℕ → RemainingLines → Result (List (ℕ × ℕ) × RemainingLines) TextErr
 entries_at sc above zero lines = Ok ([], lines)
 entries_at sc above (suc k) lines = do
   next ← next_line lines
@@ -72,7 +72,7 @@ entries_at sc above (suc k) lines = do
   Ok (entry ∷ rest.0, rest.1)
 
 -- This many moves, and the lines after them.
-unfoldable pub moves_at : Scenario → ℕ → LinesLeft → Result (List (ℕ × ℕ) × LinesLeft) TextErr
+unfoldable pub moves_at : Scenario → ℕ → RemainingLines → Result (List (ℕ × ℕ) × RemainingLines) TextErr
 moves_at sc zero lines = Ok ([], lines)
 moves_at sc (suc k) lines = do
   next ← next_line lines
@@ -91,16 +91,16 @@ stations_at sc n above (field ∷ fields) = do
 -- ---- one line, and the lines after it
 
 -- What was read, together with these lines.
-abbrev pub and_left : {A : Type 0} → LinesLeft → Result A TextErr → Result (A × LinesLeft) TextErr
-and_left left read = read >>= λ x. Ok (x, left)
+abbrev pub with_remaining : {A : Type 0} → RemainingLines → Result A TextErr → Result (A × RemainingLines) TextErr
+with_remaining left read = read >>= λ x. Ok (x, left)
 
 -- The next line as a log's line with this number, and the lines after it.
-abbrev pub numbered_line : ℕ → LinesLeft → Result (Line × LinesLeft) TextErr
-numbered_line number lines = next_line lines >>= λ next. and_left next.1 (log_line number next.0)
+abbrev pub numbered_line : ℕ → RemainingLines → Result (Line × RemainingLines) TextErr
+numbered_line number lines = next_line lines >>= λ next. with_remaining next.1 (log_line number next.0)
 
 -- The next line as an entry that begins with this word, and the lines after it.
-abbrev pub entry_line : Scenario → List ℕ → Option ℕ → LinesLeft → Result ((ℕ × ℕ) × LinesLeft) TextErr
-entry_line sc word above lines = next_line lines >>= λ next. and_left next.1 (entry_at sc word above next.0)
+abbrev pub entry_line : Scenario → List ℕ → Option ℕ → RemainingLines → Result ((ℕ × ℕ) × RemainingLines) TextErr
+entry_line sc word above lines = next_line lines >>= λ next. with_remaining next.1 (entry_at sc word above next.0)
 
 -- The station that one field of line `n` names, above the one before it.
 abbrev pub station_field : Scenario → ℕ → Option ℕ → List ℕ → Result ℕ TextErr

@@ -10,71 +10,71 @@ use Rattle.transcript_text.specs.declared.error.TextErr.TheVariants.{Version, Ba
 use Rattle.auction_core.specs.declared.prefix.Prefix.{Prefix}
 use Rattle.auction_core.specs.declared.transcript.Transcript.{Transcript}
 use Rattle.auction_core.specs.declared.transcript.TranscriptStep.{TranscriptStep}
-use Rattle.transcript_text.specs.Fields.{LinesLeft}
+use Rattle.transcript_text.specs.Fields.{RemainingLines}
 use Rattle.transcript_text.specs.Reading.{next_step, start_at, text_end, version_at}
 use Rattle.pack_defs.specs.Steps.{◌>>=◌}
 
 -- ---- missing lines
 
 -- What is kept if only lines are missing; any other error stays an error.
-abbrev pub kept_at : {A : Type 0} → A → TextErr → Result A TextErr
-kept_at kept Version = Err Version
-kept_at kept (BadLine n) = Err (BadLine n)
-kept_at kept Truncated = Ok kept
-kept_at kept NoMemory = Err NoMemory
+abbrev pub kept_on_error : {A : Type 0} → A → TextErr → Result A TextErr
+kept_on_error kept Version = Err Version
+kept_on_error kept (BadLine n) = Err (BadLine n)
+kept_on_error kept Truncated = Ok kept
+kept_on_error kept NoMemory = Err NoMemory
 
 -- The next part, read after one that is complete; if that one is incomplete, what is kept.
-abbrev pub if_there : {A B : Type 0} → B → Result A TextErr → (A → Result B TextErr) → Result B TextErr
-if_there kept (Ok x) next = next x
-if_there kept (Err why) next = kept_at kept why
+abbrev pub if_complete : {A B : Type 0} → B → Result A TextErr → (A → Result B TextErr) → Result B TextErr
+if_complete kept (Ok x) next = next x
+if_complete kept (Err why) next = kept_on_error kept why
 
 -- ---- steps
 
 -- The steps that are complete, and whether the `end` line is.
-pub record StepsThere : Type 0 where
+pub record StepsOfPrefix : Type 0 where
   pub steps : List TranscriptStep
   pub ended : Bool
 
 -- No steps, and no `end` line.
-abbrev pub no_more : StepsThere
-no_more = record { steps = []; ended = false }
+abbrev pub only_these_steps : StepsOfPrefix
+only_these_steps = record { steps = []; ended = false }
 
 -- A step, and then the steps after it; or the `end` line, which no complete line may follow.
-abbrev pub there_or : Option TranscriptStep → LinesLeft → (LinesLeft → Result StepsThere TextErr) → Result StepsThere TextErr
-there_or None lines rest = text_end true lines >>= λ u. Ok (record { steps = []; ended = true })
-there_or (Some x) lines rest = rest lines >>= λ more. Ok (record { steps = x ∷ more.steps; ended = more.ended })
+abbrev pub prefix_step_or : Option TranscriptStep → RemainingLines → (RemainingLines → Result StepsOfPrefix TextErr) → Result StepsOfPrefix TextErr
+prefix_step_or None lines rest = text_end true lines >>= λ u. Ok (record { steps = []; ended = true })
+prefix_step_or (Some x) lines rest = rest lines >>= λ more. Ok (record { steps = x ∷ more.steps; ended = more.ended })
 
 -- The steps after `steps` steps, up to the `end` line or to the first step that is incomplete. Each step has a line
 -- at least, so the number of lines bounds the number of steps.
-unfoldable pub steps_there : Scenario → BookView → ℕ → ℕ → LinesLeft → Result StepsThere TextErr
-steps_there sc book zero steps lines = Ok no_more
-steps_there sc book (suc most) steps lines =
-    if_there no_more (next_step sc book steps lines) (λ next. there_or next.0 next.1 (λ rest. steps_there sc book most (steps + 1) rest))
+unfoldable pub prefix_steps : Scenario → BookView → ℕ → ℕ → RemainingLines → Result StepsOfPrefix TextErr
+prefix_steps sc book zero steps lines = Ok only_these_steps
+prefix_steps sc book (suc most) steps lines =
+    if_complete only_these_steps (next_step sc book steps lines) (λ next. prefix_step_or next.0 next.1 (λ rest. prefix_steps sc book most (steps + 1) rest))
 
 -- ---- the complete text
 
 -- What a text without a complete line begins.
-abbrev pub nothing_there : Prefix
-nothing_there = record { order = None; start = None; steps = []; ended = false }
+abbrev pub empty_prefix : Prefix
+empty_prefix = record { order = None; start = None; steps = []; ended = false }
 
 -- What a text begins whose start is incomplete.
-abbrev pub order_there : Order → Prefix
-order_there order = record { order = Some order; start = None; steps = []; ended = false }
+abbrev pub order_prefix : Order → Prefix
+order_prefix order = record { order = Some order; start = None; steps = []; ended = false }
 
 -- A transcript as a prefix, with whether its `end` line was read.
-abbrev pub transcript_there : Transcript → Bool → Prefix
-transcript_there t ended = record { order = Some t.order; start = Some t.start; steps = t.steps; ended = ended }
+abbrev pub transcript_prefix : Transcript → Bool → Prefix
+transcript_prefix t ended = record { order = Some t.order; start = Some t.start; steps = t.steps; ended = ended }
 
 -- The transcript that begins with `begun`, as far as these lines have complete steps of it.
-unfoldable pub goes_on_there : Scenario → BookView → Transcript → LinesLeft → Result Prefix TextErr
+unfoldable pub goes_on_there : Scenario → BookView → Transcript → RemainingLines → Result Prefix TextErr
 goes_on_there sc book begun lines = do
-  more ← steps_there sc book (length lines.left) (length begun.steps) lines
-  Ok (transcript_there (record { order = begun.order; start = begun.start; steps = begun.steps ++ more.steps }) more.ended)
+  more ← prefix_steps sc book (length lines.left) (length begun.steps) lines
+  Ok (transcript_prefix (record { order = begun.order; start = begun.start; steps = begun.steps ++ more.steps }) more.ended)
 
 -- What follows the first line, which names this order, as far as it is complete.
-unfoldable pub start_there : Scenario → BookView → Order → LinesLeft → Result Prefix TextErr
-start_there sc book order lines =
-    if_there (order_there order) (start_at sc lines)
+unfoldable pub prefix_start : Scenario → BookView → Order → RemainingLines → Result Prefix TextErr
+prefix_start sc book order lines =
+    if_complete (order_prefix order) (start_at sc lines)
     (λ start. goes_on_there sc book (record { order = order; start = start.0; steps = [] }) start.1)
 
 -- The complete part of the transcript that begins with this text: its first line, its start, each step whose lines
@@ -82,7 +82,7 @@ start_there sc book order lines =
 -- the first complete line that is not allowed at its place or follows the `end` line.
 unfoldable pub prefix_of : Scenario → BookView → List ℕ → Result Prefix TextErr
 prefix_of sc book text =
-    if_there nothing_there (version_at (ended_lines text)) (λ version. start_there sc book version.0 version.1)
+    if_complete empty_prefix (version_at (ended_lines text)) (λ version. prefix_start sc book version.0 version.1)
 
 -- ---- a beginning and the complete transcript
 
@@ -96,4 +96,4 @@ pub record IsPrefixOf (kept : Prefix) (t : Transcript) : Type 0 where
   pub order : IsNoneOr kept.order t.order
   pub start : IsNoneOr kept.start t.start
   pub steps : kept.steps ≡ take (length kept.steps) t.steps
-  pub all : kept.ended ≡ true → kept ≡ transcript_there t true
+  pub all : kept.ended ≡ true → kept ≡ transcript_prefix t true

@@ -14,7 +14,7 @@ use Rattle.cert_types.specs.declared.answer.Refutation.{Refutation}
 use Rattle.cert_types.specs.declared.answer.Refutation.TheVariants.{Proof, Dead}
 use Rattle.auction_core.specs.declared.record.Shown.{Shown}
 use Rattle.auction_core.specs.declared.record.Shown.TheVariants.{Empty, Fits, Same, NoChannel, Refuted, Outside, Undecided}
-use Rattle.lrat_text.specs.LogText.{greatest, IsLitSpelled}
+use Rattle.lrat_text.specs.Write.{greatest, IsLitSpelled}
 use Rattle.auction_core.specs.declared.transcript.Transcript.{Transcript}
 use Rattle.auction_core.specs.declared.transcript.TranscriptStep.{TranscriptStep}
 use Rattle.auction_core.specs.LogNumbers.{clauses_in}

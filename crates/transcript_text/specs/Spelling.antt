@@ -19,7 +19,7 @@ use Rattle.auction_core.specs.declared.record.Record.{Record}
 use Rattle.auction_core.specs.LogNumbers.{clauses_in, firsts_of}
 use Rattle.auction_core.specs.State.{shows_room, test_of, tested_set}
 use Rattle.lrat_text.specs.Lines.{line_of}
-use Rattle.lrat_text.specs.LogText.{log_text}
+use Rattle.lrat_text.specs.Write.{log_text}
 use Rattle.auction_core.specs.declared.transcript.Transcript.{Transcript}
 use Rattle.auction_core.specs.declared.transcript.TranscriptStep.{TranscriptStep}
 

@@ -2,13 +2,13 @@
 
 ghost use Rattle.std.specs.Prelude.{IfOk};
 ghost use Rattle.pack_defs.specs.Scenario.{StationsAscend};
-ghost use Rattle.transcript_text.specs.Reading.{IsHeadCounted, dead_head, end_head, fit_head, head_at, head_by, log_head, none_head, outside_head, same_head, step_test_at, undecided_head};
+ghost use Rattle.transcript_text.specs.Reading.{IsHeadCounted, dead_head, end_head, fit_head, head_at, head_of_word, log_head, none_head, outside_head, same_head, step_test_at, undecided_head};
 ghost use Rattle.transcript_text.specs.Steps.{Gives};
 
 use crate::error::TextErr;
 use crate::fields::{
-    LineFields, channel_at, count_at, exactly_at, line_end, next_field, short_number, station_at,
-    word_at, worker_at,
+    LineFields, channel_at, count_at, exact_number_at, line_end, next_field, short_number,
+    station_at, word_at, worker_at,
 };
 use crate::head::{Head, StepTest};
 use itoa::Buffer;
@@ -117,7 +117,7 @@ fn undecided_head<'a>(sc: &Scenario, line: LineFields<'a>) -> Result<Head, TextE
     ensures counted { IfOk result IsHeadCounted }
 {
     let (test, rest) = test_at(sc, line)?;
-    let rest = exactly_at(sc.workers.as_slice().len() as u64, rest)?;
+    let rest = exact_number_at(sc.workers.as_slice().len() as u64, rest)?;
     line_end(rest)?;
     Ok(Head::Undecided { test })
 }
@@ -135,14 +135,14 @@ fn end_head<'a>(steps: u64, line: LineFields<'a>) -> Result<Head, TextErr>
 }
 
 // Reads the rest of the first line that begins with this word.
-fn head_by<'a>(
+fn head_of_word<'a>(
     sc: &Scenario,
     steps: u64,
     word: &[u8],
     line: LineFields<'a>,
 ) -> Result<Head, TextErr>
     requires { StationsAscend sc.now }
-    ensures head { Gives (λ x. x) (head_by sc.now steps word.now line.entry) result }
+    ensures head { Gives (λ x. x) (head_of_word sc.now steps word.now line.entry) result }
     ensures counted { IfOk result IsHeadCounted }
 {
     if word == b"fit".as_slice() {
@@ -184,5 +184,5 @@ pub(crate) fn head_at<'a>(sc: &Scenario, steps: u64, line: LineFields<'a>) -> Re
     ensures counted { IfOk result IsHeadCounted }
 {
     let (word, rest) = next_field(line)?;
-    head_by(sc, steps, word, rest)
+    head_of_word(sc, steps, word, rest)
 }

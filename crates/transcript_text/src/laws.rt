@@ -7,7 +7,7 @@ ghost use Rattle.pack_defs.specs.declared.scenario.Scenario.{Scenario};
 ghost use Rattle.auction_core.specs.Backed.{IsBacked};
 ghost use Rattle.auction_core.specs.declared.record.Record.{Record};
 ghost use Rattle.auction_core.specs.declared.record.Ending.TheVariants as Ending;
-ghost use Rattle.transcript_text.specs.Named.{IsHeld, IsNamed};
+ghost use Rattle.transcript_text.specs.RoundTrip.{IsHeld, IsNamed};
 ghost use Rattle.pack_defs.specs.Book.{BookView};
 ghost use Rattle.pack_defs.specs.declared.order.Order.TheVariants.{ByFacility};
 ghost use Rattle.auction_core.specs.declared.transcript.Transcript.{Transcript};
@@ -16,13 +16,13 @@ ghost use Rattle.pack_defs.specs.Examples.{three_stations};
 ghost use Rattle.transcript_text.specs.declared.error.TextErr.TheVariants.{BadLine, Truncated, Version};
 ghost use Rattle.transcript_text.specs.Examples.{fitted_step, later_text, later_transcript, other_text, other_transcript, three, three_text, three_transcript, two_workers};
 ghost use Rattle.auction_core.specs.declared.prefix.Prefix.{Prefix};
-ghost use Rattle.transcript_text.specs.PrefixReading.{IsPrefixOf, prefix_of, transcript_there};
+ghost use Rattle.transcript_text.specs.PrefixReading.{IsPrefixOf, prefix_of, transcript_prefix};
 ghost use Rattle.transcript_text.specs.PrefixSpelling.{prefix_spelling};
 ghost use Rattle.transcript_text.specs.Reading.{transcript_of};
 ghost use Rattle.transcript_text.specs.Spelling.{spelling, transcript_for, transcript_text};
 
 /// The transcript of the auction of three stations, written and read, and some texts that are rejected.
-pub fn text_of_three_stations()
+pub fn prove_text_of_three_stations()
     ensures written { spelling three_stations three_transcript ≡ three_text }
     ensures read { transcript_of three three_stations (codes "transcript 1\nstart empty\nfit 1 1 1\nat 1 14\nend 1\n") ≡ Ok (record { order = ByFacility; start = Shown.Empty; steps = fitted_step 1 1 14 ∷ [] }) }
     ensures whole { transcript_of three three_stations three_text ≡ Ok three_transcript }
@@ -37,39 +37,39 @@ pub fn text_of_three_stations()
 {}
 
 /// A transcript that can be written is read back as itself.
-pub fn a_written_transcript_is_read()
+pub fn prove_written_transcript_is_read()
     ensures { (sc : Scenario) (book : BookView) (t : Transcript) → IsSpelled sc book t → transcript_of sc book (spelling book t) ≡ Ok t }
 {}
 
 /// The transcript of a backed record of a finished auction is read back as itself. The scenario, the book and the
 /// record must be such as the program builds.
-pub fn a_records_transcript_is_read()
+pub fn prove_record_round_trip()
     ensures { (sc : Scenario) (book : BookView) (rec : Record) → IsBacked sc book rec.order rec → rec.ending ≡ Ending.Done → IsWithinLimits sc → IsNamed sc book → IsHeld rec → transcript_of sc book (transcript_text sc book rec) ≡ Ok (transcript_for sc book rec) }
 {}
 
 /// No two texts are the same transcript: a text that is read as a transcript is exactly the text that is written of
 /// it. The scenario's workers must be counted in 32 bits.
-pub fn a_transcript_has_one_text()
+pub fn prove_one_text()
     ensures { (sc : Scenario) (book : BookView) (text : List ℕ) (t : Transcript) → length sc.workers < 2 ^ 32 → transcript_of sc book text ≡ Ok t → text ≡ spelling book t }
 {}
 
 /// A complete transcript, read as a beginning, is returned complete, with its `end` line.
-pub fn all_of_a_transcript_is_there()
-    ensures { (sc : Scenario) (book : BookView) (text : List ℕ) (t : Transcript) → transcript_of sc book text ≡ Ok t → prefix_of sc book text ≡ Ok (transcript_there t true) }
+pub fn prove_complete_prefix()
+    ensures { (sc : Scenario) (book : BookView) (text : List ℕ) (t : Transcript) → transcript_of sc book text ≡ Ok t → prefix_of sc book text ≡ Ok (transcript_prefix t true) }
 {}
 
 /// Any first bytes of a transcript's text are read as a beginning of it, wherever they are cut.
-pub fn a_beginning_is_read()
+pub fn prove_prefix_is_read()
     ensures { (sc : Scenario) (book : BookView) (before after : List ℕ) (t : Transcript) → transcript_of sc book (before ++ after) ≡ Ok t → MatchResult (prefix_of sc book before) (λ kept. IsPrefixOf kept t) (λ why. ⊥) }
 {}
 
 /// A beginning is never rejected because lines are missing.
-pub fn no_beginning_is_cut_short()
+pub fn prove_no_prefix_rejected()
     ensures { (sc : Scenario) (book : BookView) (text : List ℕ) → prefix_of sc book text ≢ Err Truncated }
 {}
 
 /// The part that is kept of a text is the text's beginning: its own text is what was not dropped. The scenario's
 /// workers must be counted in 32 bits.
-pub fn a_text_begins_with_what_is_kept()
+pub fn prove_text_begins_with_kept()
     ensures { (sc : Scenario) (book : BookView) (text : List ℕ) (kept : Prefix) → length sc.workers < 2 ^ 32 → prefix_of sc book text ≡ Ok kept → take (length (prefix_spelling book kept)) text ≡ prefix_spelling book kept }
 {}

@@ -6,7 +6,7 @@
 //! Modules, in reading order:
 //!
 //! - `write`: writes the transcript of a record.
-//! - `parts`: writes the first line, the start, one step, and the last line.
+//! - `line_writers`: writes the first line, the start, one step, and the last line.
 //! - `test_set`: the stations that a test asks about.
 //! - `on_air`: the stations on air, as a set.
 //! - `read`: reads a complete transcript.
@@ -17,27 +17,27 @@
 //! - `fields`: splits lines and fields.
 //! - `reader`: reads a transcript that comes in pieces.
 //! - `pieces`: the whole lines of a piece.
-//! - `beginning`: reads a transcript that is cut short.
-//! - `again`: the preconditions of the round-trip law.
+//! - `prefix_reading`: reads a transcript that is cut short.
+//! - `round_trip`: the preconditions of the round-trip law.
 //! - `laws`: the round-trip laws, and worked examples.
 //! - `error`: why a text is rejected.
 #![tactic(auto)]
 
-pub mod again;
-pub mod beginning;
 mod error;
 mod fields;
 mod head;
 mod heads;
 pub mod laws;
+mod line_writers;
 mod log_field;
 mod log_lines;
 mod on_air;
-mod parts;
 mod pieces;
+pub mod prefix_reading;
 pub mod read;
 pub mod reader;
 mod reading;
+pub mod round_trip;
 mod steps;
 pub mod test_set;
 pub mod write;

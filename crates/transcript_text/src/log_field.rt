@@ -7,7 +7,7 @@ ghost use Rattle.std.specs.Str.{all_ascii_digits};
 ghost use Rattle.std.specs.Str.Parse.{digits_value};
 ghost use Rattle.lrat_text.specs.declared.field.Field.TheVariants.{Number};
 ghost use Rattle.lrat_text.specs.Lines.{fields_of};
-ghost use Rattle.lrat_text.specs.LogText.{greatest};
+ghost use Rattle.lrat_text.specs.Write.{greatest};
 ghost use Rattle.transcript_text.specs.Fields.{IsNumeral, plain_field};
 
 use crate::fields::plain_field;

@@ -4,7 +4,7 @@ ghost use Rattle.std.specs.Prelude.{◌≡◌, IsTrue, length, map};
 ghost use Rattle.pack_defs.specs.Lists.{is_ascending};
 ghost use Rattle.auction_core.specs.Clock.{on_air_by};
 
-use auction_core::clock::Standing;
+use auction_core::clock::StationStatus;
 use pack_defs::station::Station;
 use packing_graph::station_set::StationSet;
 
@@ -14,17 +14,17 @@ pub struct OnAir<'a> {
     /// The stations, ascending.
     pub stations: &'a [Station],
     /// The standing of each station, in the same order.
-    pub standings: &'a [Standing],
+    pub station_statuses: &'a [StationStatus],
     pub ghost ascending: { IsTrue (is_ascending (map (λ x. x.id) stations.now)) },
-    pub ghost each: { length standings.now ≡ length stations.now },
+    pub ghost each: { length station_statuses.now ≡ length stations.now },
 }
 
 impl<'a> StationSet for OnAir<'a> {
-    ghost stations = { λ set. on_air_by (map (λ x. x.id) set.stations.now) set.standings.now };
+    ghost stations = { λ set. on_air_by (map (λ x. x.id) set.stations.now) set.station_statuses.now };
 
     fn has(&self, station: u32) -> bool {
         match self.stations.binary_search_by_key(&station, |x| x.id) {
-            Ok(i) => self.standings[i].is_on_air(),
+            Ok(i) => self.station_statuses[i].is_on_air(),
             Err(_) => false,
         }
     }

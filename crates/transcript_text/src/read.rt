@@ -1,16 +1,16 @@
-//! Reads a complete transcript. `read_transcript` is the entry point; `reader` and `beginning` share the parts.
+//! Reads a complete transcript. `read_transcript` is the entry point; `reader` and `prefix_reading` share the parts.
 
 ghost use Rattle.std.specs.Prelude.{◌≡◌};
 ghost use Rattle.pack_defs.specs.Scenario.{StationsAscend};
 ghost use Rattle.lrat_text.specs.Lines.{ended_lines};
-ghost use Rattle.transcript_text.specs.Reading.{empty_start, fit_start, order_of, start_at, start_by, text_end, transcript_of, version_at};
-ghost use Rattle.transcript_text.specs.Pieces.{ended_by, goes_on, opened_at};
+ghost use Rattle.transcript_text.specs.Reading.{empty_start, fit_start, order_of, start_at, start_of_word, text_end, transcript_of, version_at};
+ghost use Rattle.transcript_text.specs.Pieces.{ended_on_error, continue_reading, opened_at};
 ghost use Rattle.transcript_text.specs.Steps.{Gives};
 
 use crate::error::TextErr;
 use crate::fields::{LineFields, TextLines, count_at, line_end, next_field, next_line, word_at};
 use crate::log_lines::entries_at;
-use crate::steps::{StepsRead, steps_on};
+use crate::steps::{StepsRead, read_remaining_steps};
 use auction_core::record::Shown;
 use auction_core::transcript::Transcript;
 use lrat_text::lines::{is_whole, split_line};
@@ -87,7 +87,7 @@ fn empty_start<'a>(
 }
 
 // Reads the rest of line `n`, the start line, whose kind is `word`.
-fn start_by<'a>(
+fn start_of_word<'a>(
     alloc: Global,
     sc: &Scenario,
     n: u64,
@@ -96,7 +96,7 @@ fn start_by<'a>(
     lines: TextLines<'a>,
 ) -> Result<(Shown, TextLines<'a>), TextErr>
     requires { StationsAscend sc.now }
-    ensures { Gives (λ x. x) (start_by sc.now n word.now line.entry lines.entry) result }
+    ensures { Gives (λ x. x) (start_of_word sc.now n word.now line.entry lines.entry) result }
 {
     if word == b"empty".as_slice() {
         return empty_start(line, lines);
@@ -121,7 +121,7 @@ pub(crate) fn start_at<'a>(
     let (line, rest) = next_line(lines)?;
     let fields = word_at(b"start", line)?;
     let (kind, fields) = next_field(fields)?;
-    start_by(alloc, sc, n, kind, fields, rest)
+    start_of_word(alloc, sc, n, kind, fields, rest)
 }
 
 /// Checks that nothing follows the last line. `whole` is whether the text ends with a complete line.
@@ -168,9 +168,9 @@ pub(crate) fn opened_at<'a>(
 /// # Errors
 ///
 /// `Truncated` if the `end` line is missing, `BadLine` if anything follows it.
-#[tactic(auto, unfolding(crate::specs::Pieces::ended_by))]
-pub(crate) fn ended_by<'a>(whole: bool, read: StepsRead<'a>) -> Result<Transcript, TextErr>
-    ensures { Gives (λ t. t) (ended_by whole read.entry) result }
+#[tactic(auto, unfolding(crate::specs::Pieces::ended_on_error))]
+pub(crate) fn ended_on_error<'a>(whole: bool, read: StepsRead<'a>) -> Result<Transcript, TextErr>
+    ensures { Gives (λ t. t) (ended_on_error whole read.entry) result }
 {
     let StepsRead { begun, rest, ended } = read;
     if ended {
@@ -182,7 +182,7 @@ pub(crate) fn ended_by<'a>(whole: bool, read: StepsRead<'a>) -> Result<Transcrip
 
 /// Returns the transcript that begins with `begun` and ends with these lines. `whole` is whether the text ends with a
 /// complete line.
-pub(crate) fn goes_on<'a>(
+pub(crate) fn continue_reading<'a>(
     alloc: Global,
     sc: &Scenario,
     book: &Book,
@@ -191,10 +191,10 @@ pub(crate) fn goes_on<'a>(
     lines: TextLines<'a>,
 ) -> Result<Transcript, TextErr>
     requires { StationsAscend sc.now }
-    ensures { Gives (λ t. t) (goes_on sc.now book.now begun whole lines.entry) result }
+    ensures { Gives (λ t. t) (continue_reading sc.now book.now begun whole lines.entry) result }
 {
-    match steps_on(alloc, sc, book, begun, lines) {
-        Ok(read) => return ended_by(whole, read),
+    match read_remaining_steps(alloc, sc, book, begun, lines) {
+        Ok(read) => return ended_on_error(whole, read),
         Err(why) => return Err(why),
     }
 }
@@ -219,7 +219,14 @@ pub fn read_transcript(
     ensures { Gives (λ t. t) (transcript_of sc.now book.now text.now) result }
 {
     match opened_at(alloc, sc, text) {
-        Ok((begun, lines)) => return goes_on(alloc, sc, book, begun, is_whole(text), lines),
+        Ok((begun, lines)) => return continue_reading(
+            alloc,
+            sc,
+            book,
+            begun,
+            is_whole(text),
+            lines,
+        ),
         Err(why) => return Err(why),
     }
 }

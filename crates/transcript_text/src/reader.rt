@@ -11,19 +11,19 @@ ghost use Rattle.pack_defs.specs.Scenario.{StationsAscend};
 ghost use Rattle.pack_defs.specs.Book.{BookView};
 ghost use Rattle.pack_defs.specs.declared.scenario.Scenario.{Scenario};
 ghost use Rattle.transcript_text.specs.declared.reader.Stage.TheVariants.{Opening, Steps, Refused};
-ghost use Rattle.transcript_text.specs.Pieces.{HasRead, IsFaulty, IsStageBy, ReadsSame, SaysSame};
+ghost use Rattle.transcript_text.specs.Pieces.{HasRead, IsFaulty, IsStageOnError, ReadersAgree, ReadsToSame};
 ghost use Rattle.transcript_text.specs.PrefixReading.{prefix_of};
 ghost use Rattle.transcript_text.specs.Reading.{transcript_of};
 ghost use Rattle.transcript_text.specs.Steps.{Gives};
 
-use crate::beginning::{read_prefix, steps_there, there_by};
 use crate::error::TextErr;
 use crate::fields::{TextLines, next_line};
 use crate::head::Head;
 use crate::heads::head_at;
 use crate::pieces::{kept_of, line_ends, lines_from, whole_part};
-use crate::read::{ended_by, goes_on, opened_at, read_transcript};
-use crate::steps::{StepsRead, steps_on};
+use crate::prefix_reading::{prefix_on_error, prefix_steps, read_prefix};
+use crate::read::{continue_reading, ended_on_error, opened_at, read_transcript};
+use crate::steps::{StepsRead, read_remaining_steps};
 use auction_core::prefix::Prefix;
 use auction_core::transcript::Transcript;
 use lrat_text::lines::{is_whole, split_line};
@@ -70,8 +70,8 @@ impl Model for TranscriptReader {
 }
 
 // Returns the stage after this error: `waiting` if lines are missing, otherwise the error.
-fn stage_by(why: TextErr, waiting: Stage) -> Result<Stage, NoMemory>
-    ensures { IfOk result (λ stage. IsStageBy why waiting stage) }
+fn stage_on_error(why: TextErr, waiting: Stage) -> Result<Stage, NoMemory>
+    ensures { IfOk result (λ stage. IsStageOnError why waiting stage) }
 {
     match why {
         TextErr::Version => return Ok(Stage::Refused(TextErr::Version)),
@@ -82,7 +82,7 @@ fn stage_by(why: TextErr, waiting: Stage) -> Result<Stage, NoMemory>
 }
 
 // Reads steps, as far as they are complete.
-fn steps_read<'a>(
+fn read_steps<'a>(
     alloc: Global,
     sc: &Scenario,
     book: &Book,
@@ -90,37 +90,37 @@ fn steps_read<'a>(
     lines: TextLines<'a>,
 ) -> Result<(Stage, TextLines<'a>), NoMemory>
     requires { StationsAscend sc.now }
-    ensures { IfOk result (λ x. SaysSame sc.now book.now (Steps begun) lines.entry x.0 x.1) }
+    ensures { IfOk result (λ x. ReadsToSame sc.now book.now (Steps begun) lines.entry x.0 x.1) }
 {
-    match steps_on(alloc, sc, book, begun, lines.again()) {
+    match read_remaining_steps(alloc, sc, book, begun, lines.same_lines()) {
         Ok(read) => {
             if read.ended {
                 return Ok((Stage::Whole(read.begun), read.rest));
             }
             return Ok((Stage::Steps(read.begun), read.rest));
         }
-        Err(why) => return Ok((stage_by(why, Stage::Refused(why))?, lines)),
+        Err(why) => return Ok((stage_on_error(why, Stage::Refused(why))?, lines)),
     }
 }
 
 // Reads from the first line on, as far as steps are complete.
-fn opening_read<'a>(
+fn read_opening<'a>(
     alloc: Global,
     sc: &Scenario,
     book: &Book,
     lines: TextLines<'a>,
 ) -> Result<(Stage, TextLines<'a>), NoMemory>
     requires { StationsAscend sc.now }
-    ensures { IfOk result (λ x. SaysSame sc.now book.now Opening lines.entry x.0 x.1) }
+    ensures { IfOk result (λ x. ReadsToSame sc.now book.now Opening lines.entry x.0 x.1) }
 {
     match opened_at(alloc, sc, lines.text) {
-        Ok((begun, behind)) => return steps_read(alloc, sc, book, begun, behind),
-        Err(why) => return Ok((stage_by(why, Stage::Opening)?, lines)),
+        Ok((begun, behind)) => return read_steps(alloc, sc, book, begun, behind),
+        Err(why) => return Ok((stage_on_error(why, Stage::Opening)?, lines)),
     }
 }
 
 // Continues from a stage, as far as steps are complete.
-fn stage_read<'a>(
+fn read_stage<'a>(
     alloc: Global,
     sc: &Scenario,
     book: &Book,
@@ -128,11 +128,11 @@ fn stage_read<'a>(
     lines: TextLines<'a>,
 ) -> Result<(Stage, TextLines<'a>), NoMemory>
     requires { StationsAscend sc.now }
-    ensures { IfOk result (λ x. SaysSame sc.now book.now stage lines.entry x.0 x.1) }
+    ensures { IfOk result (λ x. ReadsToSame sc.now book.now stage lines.entry x.0 x.1) }
 {
     match stage {
-        Stage::Opening => return opening_read(alloc, sc, book, lines),
-        Stage::Steps(begun) => return steps_read(alloc, sc, book, begun, lines),
+        Stage::Opening => return read_opening(alloc, sc, book, lines),
+        Stage::Steps(begun) => return read_steps(alloc, sc, book, begun, lines),
         Stage::Whole(transcript) => return Ok((Stage::Whole(transcript), lines)),
         Stage::Refused(why) => return Ok((Stage::Refused(why), lines)),
     }
@@ -239,7 +239,7 @@ impl TranscriptReader {
     // Reads as far as steps are complete.
     fn read_on(self, sc: &Scenario, book: &Book) -> Result<TranscriptReader, NoMemory>
         requires { StationsAscend sc.now }
-        ensures { IfOk result (λ read. ReadsSame sc.now book.now self read) }
+        ensures { IfOk result (λ read. ReadersAgree sc.now book.now self read) }
     {
         let TranscriptReader {
             alloc,
@@ -249,7 +249,7 @@ impl TranscriptReader {
             ..
         } = self;
         let whole = whole_part(&left);
-        let (stage, rest) = stage_read(alloc, sc, book, stage, lines_from(number, whole)?)?;
+        let (stage, rest) = read_stage(alloc, sc, book, stage, lines_from(number, whole)?)?;
         let kept = kept_of(alloc, rest.text, &left[whole.len()..])?;
         let lines = line_ends(&kept);
         let number = rest.number;
@@ -311,7 +311,7 @@ impl TranscriptReader {
             Stage::Opening => return read_transcript(alloc, &left, sc, book),
             Stage::Steps(begun) => {
                 let lines = lines_from(number, &left)?;
-                return goes_on(alloc, sc, book, begun, is_whole(&left), lines);
+                return continue_reading(alloc, sc, book, begun, is_whole(&left), lines);
             }
             Stage::Whole(begun) => {
                 let rest = lines_from(number, &left)?;
@@ -320,7 +320,7 @@ impl TranscriptReader {
                     rest,
                     ended: true,
                 };
-                return ended_by(is_whole(&left), read);
+                return ended_on_error(is_whole(&left), read);
             }
             Stage::Refused(why) => return Err(why),
         }
@@ -345,11 +345,11 @@ impl TranscriptReader {
         match stage {
             Stage::Opening => return read_prefix(alloc, &left, sc, book),
             Stage::Steps(begun) => {
-                return steps_there(alloc, sc, book, begun, lines_from(number, &left)?);
+                return prefix_steps(alloc, sc, book, begun, lines_from(number, &left)?);
             }
             Stage::Whole(begun) => {
                 let rest = lines_from(number, &left)?;
-                return there_by(StepsRead {
+                return prefix_on_error(StepsRead {
                     begun,
                     rest,
                     ended: true,

@@ -4,12 +4,12 @@
 ghost use Rattle.std.specs.Prelude.{◌≡◌, ◌≤◌, ◌++◌, ◌∷◌, IfOk, [], length};
 ghost use Rattle.pack_defs.specs.Scenario.{StationsAscend};
 ghost use Rattle.transcript_text.specs.Fields.{most_counted};
-ghost use Rattle.transcript_text.specs.Reading.{lines_receipt, moves_receipt, numbered_log, receipt_at, receipt_by, receipt_count, receipts_at, some_log};
+ghost use Rattle.transcript_text.specs.Reading.{lines_receipt, moves_receipt, numbered_log, receipt_at, receipt_of_word, receipt_count, receipts_at, some_log};
 ghost use Rattle.transcript_text.specs.Steps.{Gives};
 
 use crate::error::TextErr;
 use crate::fields::{
-    LineFields, TextLines, count_at, exactly_at, line_end, next_field, next_line, number_at,
+    LineFields, TextLines, count_at, exact_number_at, line_end, next_field, next_line, number_at,
 };
 use crate::log_lines::{log_at, moves_at};
 use cert_types::answer::Receipt;
@@ -61,7 +61,7 @@ fn some_log<'a>(
     requires { count ≤ most_counted }
     ensures { Gives (λ x. x) (some_log count lines.entry) result }
 {
-    let (line, _) = next_line(lines.again())?;
+    let (line, _) = next_line(lines.same_lines())?;
     let (first, _) = number_at(GREATEST, line)?;
     let (log, rest) = log_at(alloc, first, count, lines)?;
     let log = Log { lines: log };
@@ -130,14 +130,14 @@ fn receipt_count<'a>(worker: u64, line: LineFields<'a>) -> Result<u64, TextErr>
     ensures count { Gives (λ x. x) (receipt_count worker line.entry) result }
     ensures few { IfOk result (λ k. k ≤ most_counted) }
 {
-    let rest = exactly_at(worker, line)?;
+    let rest = exact_number_at(worker, line)?;
     let (count, rest) = count_at(rest)?;
     line_end(rest)?;
     Ok(count)
 }
 
 // Reads the receipt whose first line, line `n`, begins with `word`.
-fn receipt_by<'a>(
+fn receipt_of_word<'a>(
     alloc: Global,
     sc: &Scenario,
     n: u64,
@@ -147,7 +147,7 @@ fn receipt_by<'a>(
 ) -> Result<(NumberedReceipt, TextLines<'a>), TextErr>
     requires ascend { StationsAscend sc.now }
     requires few { count ≤ most_counted }
-    ensures { Gives (λ x. x) (receipt_by sc.now n word.now count lines.entry) result }
+    ensures { Gives (λ x. x) (receipt_of_word sc.now n word.now count lines.entry) result }
 {
     if word == b"lines".as_slice() {
         return lines_receipt(alloc, count, lines);
@@ -173,7 +173,7 @@ fn receipt_at<'a>(
     let (line, rest) = next_line(lines)?;
     let (word, fields) = next_field(line)?;
     let count = receipt_count(worker, fields)?;
-    receipt_by(alloc, sc, n, word, count, rest)
+    receipt_of_word(alloc, sc, n, word, count, rest)
 }
 
 /// The receipts that were read, and the number of each log's first line.

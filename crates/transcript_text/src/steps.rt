@@ -1,10 +1,10 @@
-//! Reads the steps of a transcript. `read`, `reader` and `beginning` call `steps_on`.
+//! Reads the steps of a transcript. `read`, `reader` and `prefix_reading` call `read_remaining_steps`.
 
 ghost use Rattle.std.specs.Prelude.{◌≡◌, ◌≤◌, IfOk};
 ghost use Rattle.pack_defs.specs.Scenario.{StationsAscend};
 ghost use Rattle.transcript_text.specs.Fields.{most_counted};
 ghost use Rattle.transcript_text.specs.Reading.{IsHeadCounted, fit_step, log_step, next_step, outside_step, step_at, step_of, undecided_step};
-ghost use Rattle.transcript_text.specs.Pieces.{AreStepsThere, IsAtEnd, ReadsOn, stopped};
+ghost use Rattle.transcript_text.specs.Pieces.{ArePrefixSteps, IsAtEnd, ReadsOn, stopped};
 ghost use Rattle.transcript_text.specs.Steps.{Gives};
 
 use crate::error::TextErr;
@@ -76,7 +76,7 @@ fn log_step<'a>(
 {
     let (line, rest) = next_line(lines)?;
     let line = word_at(b"on", line)?;
-    let subset = stations_of(alloc, sc, line.number, line.into_left())?;
+    let subset = stations_of(alloc, sc, line.number, line.into_rest())?;
     let first = clause_count(book, &subset) + 1;
     let (log, rest) = log_at(alloc, first, count, rest)?;
     let how = Refutation::Proof {
@@ -207,7 +207,7 @@ impl<'a> Model for StepsRead<'a> {
 }
 
 // Returns what was read, with these steps.
-fn so_far<'a>(
+fn steps_so_far<'a>(
     order: Order,
     start: Shown,
     steps: Vec<TranscriptStep>,
@@ -246,7 +246,7 @@ fn stopped<'a>(why: TextErr, read: StepsRead<'a>) -> Result<StepsRead<'a>, TextE
 /// # Errors
 ///
 /// `BadLine` for the first invalid line, `NoMemory` if memory runs out. Missing lines are no error.
-pub(crate) fn steps_on<'a>(
+pub(crate) fn read_remaining_steps<'a>(
     alloc: Global,
     sc: &Scenario,
     book: &Book,
@@ -256,7 +256,7 @@ pub(crate) fn steps_on<'a>(
     requires { StationsAscend sc.now }
     ensures read { ReadsOn sc.now book.now begun lines.entry result }
     ensures waits { IfOk result (λ x. IsAtEnd sc.now book.now x) }
-    ensures there { AreStepsThere sc.now book.now begun lines.entry result }
+    ensures there { ArePrefixSteps sc.now book.now begun lines.entry result }
 {
     let Transcript {
         order,
@@ -266,15 +266,15 @@ pub(crate) fn steps_on<'a>(
     let mut steps = steps.into_vec();
     let mut rest = lines;
     loop {
-        match next_step(alloc, sc, book, steps.len() as u64, rest.again()) {
+        match next_step(alloc, sc, book, steps.len() as u64, rest.same_lines()) {
             Ok((next, after)) => match next {
                 Some(step) => {
                     rest = after;
                     steps.push(step)?;
                 }
-                None => return Ok(so_far(order, start, steps, after, true)),
+                None => return Ok(steps_so_far(order, start, steps, after, true)),
             },
-            Err(why) => return stopped(why, so_far(order, start, steps, rest, false)),
+            Err(why) => return stopped(why, steps_so_far(order, start, steps, rest, false)),
         }
     }
 }

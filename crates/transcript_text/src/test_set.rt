@@ -4,7 +4,7 @@ ghost use Rattle.std.specs.Prelude.{◌≡◌, IfOk, IsTrue, length};
 ghost use Rattle.pack_defs.specs.ClockRule.{ClockState};
 ghost use Rattle.pack_defs.specs.Lists.{is_ascending, is_in};
 ghost use Rattle.pack_defs.specs.Scenario.{StationsAscend, facilities};
-ghost use Rattle.auction_core.specs.Clock.{AreStandings};
+ghost use Rattle.auction_core.specs.Clock.{AreStatuses};
 ghost use Rattle.auction_core.specs.State.{tested_set};
 
 use crate::on_air::OnAir;
@@ -26,13 +26,13 @@ pub fn test_set(
 ) -> Result<Vec<u32>, NoMemory>
     requires ascend { StationsAscend sc.now }
     requires known { IsTrue (is_in (facilities sc.now) station) }
-    requires stations { length clock.now.standings ≡ length sc.now.stations }
-    ensures set { IfOk result (λ set. (st : ClockState) → AreStandings sc.now st clock.now.standings → set.items ≡ tested_set sc.now book.now st station) }
+    requires stations { length clock.now.station_statuses ≡ length sc.now.stations }
+    ensures set { IfOk result (λ set. (st : ClockState) → AreStatuses sc.now st clock.now.station_statuses → set.items ≡ tested_set sc.now book.now st station) }
     ensures ascends { IfOk result (λ set. IsTrue (is_ascending set.items)) }
 {
     let on_air = OnAir {
         stations: sc.stations.as_slice(),
-        standings: clock.standings(),
+        station_statuses: clock.station_statuses(),
     };
     component_among(alloc, book, &on_air, station)
 }

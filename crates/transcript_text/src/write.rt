@@ -7,13 +7,13 @@ ghost use Rattle.pack_defs.specs.Lists.{is_in};
 ghost use Rattle.pack_defs.specs.Prices.{prices};
 ghost use Rattle.pack_defs.specs.Scenario.{IsWithinLimits, StationsAscend, facilities};
 ghost use Rattle.auction_core.specs.Backed.{IsBacked};
-ghost use Rattle.auction_core.specs.Clock.{AreStandings, IsClockOf};
+ghost use Rattle.auction_core.specs.Clock.{AreStatuses, IsClockOf};
 ghost use Rattle.auction_core.specs.State.{tested_set};
 ghost use Rattle.auction_core.specs.LogNumbers.{clauses_in, firsts_of};
 ghost use Rattle.transcript_text.specs.Fields.{most_counted};
 ghost use Rattle.transcript_text.specs.Spelling.{transcript_text};
 
-use crate::parts::{push_end, push_start, push_step, push_version};
+use crate::line_writers::{push_end, push_start, push_step, push_version};
 use crate::test_set::test_set;
 use auction_core::clock::Clock;
 use auction_core::record::{Ending, Record, Shown, Step};
@@ -35,8 +35,8 @@ fn test_clauses(
 ) -> Result<u64, NoMemory>
     requires ascend { StationsAscend sc.now }
     requires known { IsTrue (is_in (facilities sc.now) station) }
-    requires stations { length clock.now.standings ≡ length sc.now.stations }
-    ensures count { IfOk result (λ n. (st : ClockState) → AreStandings sc.now st clock.now.standings → n ≡ clauses_in book.now (tested_set sc.now book.now st station)) }
+    requires stations { length clock.now.station_statuses ≡ length sc.now.stations }
+    ensures count { IfOk result (λ n. (st : ClockState) → AreStatuses sc.now st clock.now.station_statuses → n ≡ clauses_in book.now (tested_set sc.now book.now st station)) }
     ensures few { IfOk result (λ n. n + (most_counted + 1) ≤ 2 ^ 63) }
 {
     let set = test_set(alloc, sc, book, clock, station)?;
@@ -54,8 +54,8 @@ fn log_clauses(
 ) -> Result<u64, NoMemory>
     requires ascend { StationsAscend sc.now }
     requires known { IsTrue (is_in (facilities sc.now) step.now.station) }
-    requires stations { length clock.now.standings ≡ length sc.now.stations }
-    ensures count { IfOk result (λ n. (st : ClockState) → AreStandings sc.now st clock.now.standings → firsts_of n step.now.shown ≡ firsts_of (clauses_in book.now (tested_set sc.now book.now st step.now.station)) step.now.shown) }
+    requires stations { length clock.now.station_statuses ≡ length sc.now.stations }
+    ensures count { IfOk result (λ n. (st : ClockState) → AreStatuses sc.now st clock.now.station_statuses → firsts_of n step.now.shown ≡ firsts_of (clauses_in book.now (tested_set sc.now book.now st step.now.station)) step.now.shown) }
     ensures few { IfOk result (λ n. n + (most_counted + 1) ≤ 2 ^ 63) }
 {
     match &step.shown {

@@ -132,8 +132,8 @@ length_more (y ∷ ys) x = ap suc (length_more ys x)
 pub legal_more : {E : Type 0} (start : List (ℕ × E)) (k j : PassKnowledge E) (e : ℕ × E) → e.0 ≡ k.number → j.number ≡ k.number → j.seen ≡ k.seen ++ e ∷ [] → j.mine ≡ k.mine ++ e ∷ [] → IsLegalFor start k → IsLegalFor start j
 legal_more start k j e its same seen mine h = record {
   tail = h.tail ++ e ∷ [];
-  seen_is = seen ∙ (ap (λ l. l ++ e ∷ []) h.seen_is ∙ append_assoc start h.tail (e ∷ []));
-  mine_is = ap (λ n. by n (h.tail ++ e ∷ [])) same ∙ (by_more k.number h.tail e its ∙ (ap (λ l. l ++ e ∷ []) h.mine_is ∙ sym mine));
+  knows_seen = seen ∙ (ap (λ l. l ++ e ∷ []) h.knows_seen ∙ append_assoc start h.tail (e ∷ []));
+  knows_mine = ap (λ n. by n (h.tail ++ e ∷ [])) same ∙ (by_more k.number h.tail e its ∙ (ap (λ l. l ++ e ∷ []) h.knows_mine ∙ sym mine));
 }
 
 -- a list with one more entry still begins the same way

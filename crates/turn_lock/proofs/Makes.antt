@@ -8,8 +8,8 @@ use Rattle.turn_lock.specs.declared.lock.Pass.{Pass}
 use Rattle.turn_lock.specs.declared.lock.TurnLock.{TurnLock}
 use Rattle.turn_lock.specs.declared.chronicle.View.{View}
 use Rattle.atomic_table.specs.Table.{Me}
-use Rattle.turn_lock.specs.Passes.{AreAllOf, IsPassIdle, PassStanding, PassStandsAt, known_of, made_over, standing}
-use Rattle.turn_lock.specs.Turns.{AllOf, FirstMade, IsSeatIdle, Knows, each_new, known, made_of, newcomer, newcomers}
+use Rattle.turn_lock.specs.Passes.{AreAllOf, IsPassIdle, PassIdentity, PassStandsAt, known_of, value_under, pass_identity}
+use Rattle.turn_lock.specs.Turns.{AllOf, CountsPasses, IsSeatIdle, Knows, each_new, known, made_of, newcomer, newcomers}
 use Rattle.turn_lock.proofs.Lists.{all_more, length_map, length_more, map_more, numbered}
 
 -- a fact about the image of each element
@@ -56,7 +56,7 @@ abbrev own_of : {T B E : Type 0} → Me (Option T) (View B E) → PassKnowledge 
 own_of m = m.0.own
 
 abbrev made_by : {T B E : Type 0} → Me (Option T) (View B E) → Option ℕ
-made_by m = m.0.made
+made_by m = m.0.passes_made
 
 -- how each new pass begins
 record IsNew {T B E : Type 0} (base : B) (start : List (ℕ × E)) (m : Me (Option T) (View B E)) : Type 0 where
@@ -88,7 +88,7 @@ module _ (T : Type 0) {B E : Type 0} (base : B) (start : List (ℕ × E)) where
   made_known zero = refl
   made_known (suc n) = first_known n
 
-  made_first : (n : ℕ) → 0 < n → FirstMade n (map made_by (all n))
+  made_first : (n : ℕ) → 0 < n → CountsPasses n (map made_by (all n))
   made_first zero some = absurd (omega arith)
   made_first (suc n) some = refl
 
@@ -102,20 +102,20 @@ module _ (T : Type 0) {B E : Type 0} (base : B) (start : List (ℕ × E)) where
 
 module _ {T B E : Type 0} {G : Ghosts T B E} (base_of : T → B) (entries : T → List (ℕ × E)) where
   -- what is known of the passes of a new lock
-  pub makes : (lock : TurnLock T B E) (ps : List (Pass T B E G)) (n : ℕ) (value : T) → 0 < n → made_over lock ≡ value → AllOf (λ p. p.seat.table_id ≡ lock.table.shared.table_id) ps → map seat_of ps ≡ made_of (base_of value) (entries value) n
-      → AreAllOf base_of entries lock (map standing ps) × AllOf IsPassIdle ps × (map known_of ps ≡ each_new (entries value) n)
-  makes lock ps n value some over own made =
+  pub makes : (lock : TurnLock T B E) (ps : List (Pass T B E G)) (n : ℕ) (value : T) → 0 < n → value_under lock ≡ value → AllOf (λ p. p.seat.table_id ≡ lock.table.shared.table_id) ps → map seat_of ps ≡ made_of (base_of value) (entries value) n
+      → AreAllOf base_of entries lock (map pass_identity ps) × AllOf IsPassIdle ps × (map known_of ps ≡ each_new (entries value) n)
+  makes lock ps n value some over own passes_made =
       let base = base_of value in
       let start = entries value in
-      let new : AllOf (λ p. IsNew base start (seat_of p)) ps = all_from seat_of (IsNew base start) ps (subst (AllOf (IsNew base start)) (sym made) (all_made T base start n)) in
-      let known_as : map known_of ps ≡ each_new start n = sym (map_again seat_of own_of ps) ∙ (ap (map own_of) made ∙ made_known T base start n) in
-      let many : length ps ≡ n = sym (length_map seat_of ps) ∙ (ap length made ∙ made_length T base start n) in (
+      let new : AllOf (λ p. IsNew base start (seat_of p)) ps = all_from seat_of (IsNew base start) ps (subst (AllOf (IsNew base start)) (sym passes_made) (all_made T base start n)) in
+      let known_as : map known_of ps ≡ each_new start n = sym (map_again seat_of own_of ps) ∙ (ap (map own_of) passes_made ∙ made_known T base start n) in
+      let many : length ps ≡ n = sym (length_map seat_of ps) ∙ (ap length passes_made ∙ made_length T base start n) in (
         record {
-          own = all_to standing (PassStandsAt base_of entries lock) ps (all_two (λ p t i. record { table = t; base = i.base_is ∙ ap (λ v. Some (base_of v)) (sym over); start = i.start_is ∙ ap entries (sym over) }) ps own new);
-          alone = all_to standing (λ s. s.joined ≡ []) ps (all_two (λ p t i. i.alone) ps own new);
-          first = subst (λ (k : ℕ). FirstMade k (map (λ (s : PassStanding B E). s.made) (map standing ps))) (sym (length_map standing ps ∙ many))
-              (subst (FirstMade n) (sym (map_again standing (λ (s : PassStanding B E). s.made) ps ∙ (sym (map_again seat_of made_by ps) ∙ ap (map made_by) made))) (made_first T base start n some));
-          all = λ p below. subst (Knows p) (sym (map_again standing (λ (s : PassStanding B E). s.number) ps ∙ (sym (map_again known_of numbered ps) ∙ ap (map numbered) known_as))) (knows_new start n p (subst (λ (k : ℕ). p < k) (length_map standing ps ∙ many) below));
+          own = all_to pass_identity (PassStandsAt base_of entries lock) ps (all_two (λ p t i. record { table = t; base = i.base_is ∙ ap (λ v. Some (base_of v)) (sym over); start = i.start_is ∙ ap entries (sym over) }) ps own new);
+          alone = all_to pass_identity (λ s. s.joined ≡ []) ps (all_two (λ p t i. i.alone) ps own new);
+          first = subst (λ (k : ℕ). CountsPasses k (map (λ (s : PassIdentity B E). s.passes_made) (map pass_identity ps))) (sym (length_map pass_identity ps ∙ many))
+              (subst (CountsPasses n) (sym (map_again pass_identity (λ (s : PassIdentity B E). s.passes_made) ps ∙ (sym (map_again seat_of made_by ps) ∙ ap (map made_by) passes_made))) (made_first T base start n some));
+          all = λ p below. subst (Knows p) (sym (map_again pass_identity (λ (s : PassIdentity B E). s.number) ps ∙ (sym (map_again known_of numbered ps) ∙ ap (map numbered) known_as))) (knows_new start n p (subst (λ (k : ℕ). p < k) (length_map pass_identity ps ∙ many) below));
         },
         all_two (λ p t i. i.idle) ps own new,
         known_as,

@@ -3,7 +3,7 @@ use Rattle.std.proofs.Common.{◌≡◌, ◌∙◌, ◌<◌, ℕ, zero, suc, Lis
 use Rattle.turn_lock.specs.declared.chronicle.Chronicle.{Ghosts}
 use Rattle.turn_lock.specs.declared.lock.Pass.{Pass}
 use Rattle.turn_lock.specs.declared.lock.TurnLock.{TurnLock}
-use Rattle.turn_lock.specs.Passes.{AreAllOf, IsPassOf, PassStandsAt, standing}
+use Rattle.turn_lock.specs.Passes.{AreAllOf, IsPassOf, PassStandsAt, pass_identity}
 use Rattle.turn_lock.specs.Turns.{AllOf}
 use Rattle.turn_lock.proofs.Makes.{all_from}
 
@@ -37,11 +37,11 @@ map_each f (x ∷ xs) [] len each = absurd (omega arith)
 map_each f (x ∷ xs) (y ∷ ys) len each = ap (λ z. z ∷ map f ys) (each 0 x (omega arith)) ∙ ap (λ zs. f x ∷ zs) (map_each f xs ys (omega arith) (λ i d lt. each (suc i) d (omega arith)))
 
 module _ {T B E : Type 0} {G : Ghosts T B E} (base_of : T → B) (entries : T → List (ℕ × E)) (lock : TurnLock T B E) where
-  pub own_at : (ps : List (Pass T B E G)) (i : ℕ) (d : Pass T B E G) → AreAllOf base_of entries lock (map standing ps) → i < length ps → IsPassOf base_of entries lock (get_or ps i d)
-  own_at ps i d h lt = all_at (λ p. IsPassOf base_of entries lock p) ps i d (all_from standing (PassStandsAt base_of entries lock) ps h.own) lt
+  pub own_at : (ps : List (Pass T B E G)) (i : ℕ) (d : Pass T B E G) → AreAllOf base_of entries lock (map pass_identity ps) → i < length ps → IsPassOf base_of entries lock (get_or ps i d)
+  own_at ps i d h lt = all_at (λ p. IsPassOf base_of entries lock p) ps i d (all_from pass_identity (PassStandsAt base_of entries lock) ps h.own) lt
 
-  pub set_all : (ps : List (Pass T B E G)) (i : ℕ) (y d : Pass T B E G) → standing y ≡ standing (get_or ps i d) → AreAllOf base_of entries lock (map standing ps) → AreAllOf base_of entries lock (map standing (slice_set ps i y))
-  set_all ps i y d same h = subst (λ ss. AreAllOf base_of entries lock ss) (sym (map_set standing ps i y d same)) h
+  pub set_all : (ps : List (Pass T B E G)) (i : ℕ) (y d : Pass T B E G) → pass_identity y ≡ pass_identity (get_or ps i d) → AreAllOf base_of entries lock (map pass_identity ps) → AreAllOf base_of entries lock (map pass_identity (slice_set ps i y))
+  set_all ps i y d same h = subst (λ ss. AreAllOf base_of entries lock ss) (sym (map_set pass_identity ps i y d same)) h
 
-  pub each_all : (ps qs : List (Pass T B E G)) → length qs ≡ length ps → ((i : ℕ) (d : Pass T B E G) → i < length ps → standing (get_or qs i d) ≡ standing (get_or ps i d)) → AreAllOf base_of entries lock (map standing ps) → AreAllOf base_of entries lock (map standing qs)
-  each_all ps qs len each h = subst (λ ss. AreAllOf base_of entries lock ss) (sym (map_each standing ps qs len each)) h
+  pub each_all : (ps qs : List (Pass T B E G)) → length qs ≡ length ps → ((i : ℕ) (d : Pass T B E G) → i < length ps → pass_identity (get_or qs i d) ≡ pass_identity (get_or ps i d)) → AreAllOf base_of entries lock (map pass_identity ps) → AreAllOf base_of entries lock (map pass_identity qs)
+  each_all ps qs len each h = subst (λ ss. AreAllOf base_of entries lock ss) (sym (map_each pass_identity ps qs len each)) h

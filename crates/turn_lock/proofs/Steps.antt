@@ -40,7 +40,7 @@ module _ {T B E : Type 0} (base_of : T → B) (entries : T → List (ℕ × E)) 
 
   pub opens : (value : T) → entries value ≡ start → base_of value ≡ base → (count : ℕ) → count ≡ length (entries value) → Rule (opening (0 ∷ 0 ∷ count ∷ []) (Some value ∷ []) (founder base start))
   opens value is based count counts =
-      let m : At = record { issued = 0; served = 0; made = 1; keeper = 0; tail = []; owner = λ _. 0; holder = λ _. 0; taken = false } in record {
+      let m : At = record { issued = 0; served = 0; passes_made = 1; keeper = 0; tail = []; owner = λ _. 0; holder = λ _. 0; taken = false } in record {
         at = m;
         words = ap (λ (k : ℕ). 0 ∷ 0 ∷ k ∷ []) (counts ∙ ap length (is ∙ sym (append-nil start)));
         crowd = refl;
@@ -53,7 +53,7 @@ module _ {T B E : Type 0} (base_of : T → B) (entries : T → List (ℕ × E)) 
           start_is = refl;
           ticket = λ t e. absurd (none_is e);
           turn = λ e. absurd (false≢true e);
-          made = λ n e. (sym (some_is e), refl);
+          passes_made = λ n e. (sym (some_is e), refl);
           own = record { prefix = ([], refl); below = omega arith; holds = refl; mine = refl };
           others = tt;
         });
@@ -91,7 +91,7 @@ module _ {T B E : Type 0} (base_of : T → B) (entries : T → List (ℕ × E)) 
                 start_is = mine.start_is;
                 ticket = λ t e. let same : n ≡ t = some_is e in (omega arith, omega arith, ap (put_at n id m.owner) (sym same) ∙ put_here n id m.owner);
                 turn = λ e. absurd (false≢true (sym out ∙ e));
-                made = mine.made;
+                passes_made = mine.passes_made;
                 own = mine.own;
                 others = mine.others;
               })
@@ -100,7 +100,7 @@ module _ {T B E : Type 0} (base_of : T → B) (entries : T → List (ℕ × E)) 
                 start_is = l.start_is;
                 ticket = λ t f. let h = l.ticket t f in let below : t < n = h.1 in (h.0, omega arith, put_else n id m.owner t (λ q. absurd (omega arith)) ∙ h.2);
                 turn = l.turn;
-                made = l.made;
+                passes_made = l.passes_made;
                 own = l.own;
                 others = l.others;
               }) (r.fits seat v e));
@@ -148,7 +148,7 @@ module _ {T B E : Type 0} (base_of : T → B) (entries : T → List (ℕ × E)) 
                 start_is = mine.start_is;
                 ticket = mine.ticket;
                 turn = λ _. (ticket ∙ ap (λ (n : ℕ). Some n) (sym is), home.2, refl);
-                made = mine.made;
+                passes_made = mine.passes_made;
                 own = record { prefix = ([], sym home.2 ∙ sym (append-nil (entries value))); below = mine.own.below; holds = mine.own.holds; mine = mine.own.mine };
                 others = mine.others;
               })
@@ -157,7 +157,7 @@ module _ {T B E : Type 0} (base_of : T → B) (entries : T → List (ℕ × E)) 
                 start_is = l.start_is;
                 ticket = l.ticket;
                 turn = λ has. absurd (false≢true (sym free ∙ (l.turn has).2));
-                made = l.made;
+                passes_made = l.passes_made;
                 own = l.own;
                 others = l.others;
               }) (r.fits seat v e));
@@ -165,7 +165,7 @@ module _ {T B E : Type 0} (base_of : T → B) (entries : T → List (ℕ × E)) 
           held = λ _. (w, ap (get_elem? (set s.views id w)) owns ∙ set_here s.views id w (inside s.views id me.0 at), refl);
         },
         λ u f. let same : t ≡ u = some_is (sym ticket ∙ f) in (
-          (λ _. (value, refl, subst (λ log. StartsWith log me.0.own.seen) (sym home.2) mine.own.prefix, mine.base_is ∙ ap (λ (x : B). Some x) (sym home.3), record { tail = m.tail; seen_is = home.2 ∙ ap (λ (l : List (ℕ × E)). l ++ m.tail) (sym mine.start_is); mine_is = mine.own.mine })),
+          (λ _. (value, refl, subst (λ log. StartsWith log me.0.own.seen) (sym home.2) mine.own.prefix, mine.base_is ∙ ap (λ (x : B). Some x) (sym home.3), record { tail = m.tail; knows_seen = home.2 ∙ ap (λ (l : List (ℕ × E)). l ++ m.tail) (sym mine.start_is); knows_mine = mine.own.mine })),
           λ ne. absurd (ne (number ∙ ap (λ (n : ℕ). n % 2 ^ 64) (is ∙ same))),
         ),
       ))
@@ -181,8 +181,8 @@ module _ {T B E : Type 0} (base_of : T → B) (entries : T → List (ℕ × E)) 
       ))
 
   -- knowledge of a pass stays right when another pass adds an entry
-  longer : (made : ℕ) (tail : List (ℕ × E)) (holder : ℕ → ℕ) (seat : ℕ) (k : PassKnowledge E) (e : ℕ × E) → e.0 ≢ k.number → FitsKnown base start made tail holder seat k → FitsKnown base start made (tail ++ e ∷ []) holder seat k
-  longer made tail holder seat k e ne f = record {
+  longer : (passes_made : ℕ) (tail : List (ℕ × E)) (holder : ℕ → ℕ) (seat : ℕ) (k : PassKnowledge E) (e : ℕ × E) → e.0 ≢ k.number → FitsKnown base start passes_made tail holder seat k → FitsKnown base start passes_made (tail ++ e ∷ []) holder seat k
+  longer passes_made tail holder seat k e ne f = record {
     prefix = (f.prefix.0 ++ e ∷ [], sym (append_assoc start tail (e ∷ [])) ∙ (ap (λ l. l ++ e ∷ []) f.prefix.1 ∙ append_assoc k.seen f.prefix.0 (e ∷ [])));
     below = f.below;
     holds = f.holds;
@@ -203,7 +203,7 @@ module _ {T B E : Type 0} (base_of : T → B) (entries : T → List (ℕ × E)) 
       let same_length : length me.0.own.seen ≡ length (start ++ m.tail) = ap length seen in
       let one_more : (length (start ++ m.tail) + 1) % 2 ^ 64 ≡ length (start ++ tail) =
       let a : length (start ++ tail) ≡ length me.0.own.seen + 1 = ap length whole ∙ length-append me.0.own.seen (e ∷ []) in omega arith in
-      let other : (seat : ℕ) → seat ≢ id → (k : PassKnowledge E) → FitsKnown base start m.made m.tail m.holder seat k → e.0 ≢ k.number =
+      let other : (seat : ℕ) → seat ≢ id → (k : PassKnowledge E) → FitsKnown base start m.passes_made m.tail m.holder seat k → e.0 ≢ k.number =
       λ seat ne k f same. ne (sym f.holds ∙ (ap m.holder (sym same ∙ number) ∙ mine.own.holds)) in (
         w,
         keeps,
@@ -215,30 +215,30 @@ module _ {T B E : Type 0} (base_of : T → B) (entries : T → List (ℕ × E)) 
           few = r.few;
           waiting = let waits = waiting_set s.views id me.0 w at in let before = r.waiting in omega arith;
           ticketed = λ u from lt. still s.views id me.0 w at refl (m.owner u) u (r.ticketed u from lt);
-          authors = all_more (λ (x : ℕ × E). x.0 < m.made) m.tail (e ∷ []) r.authors (subst (λ (k : ℕ). k < m.made) (sym number) mine.own.below, tt);
+          authors = all_more (λ (x : ℕ × E). x.0 < m.passes_made) m.tail (e ∷ []) r.authors (subst (λ (k : ℕ). k < m.passes_made) (sym number) mine.own.below, tt);
           fits = each_set (Fit m') s.views id w
               (inr record {
                 base_is = mine.base_is;
                 start_is = mine.start_is;
                 ticket = mine.ticket;
                 turn = λ _. (turn.0, sym whole, turn.2);
-                made = mine.made;
+                passes_made = mine.passes_made;
                 own = record {
                   prefix = ([], whole ∙ sym (append-nil (me.0.own.seen ++ e ∷ [])));
                   below = mine.own.below;
                   holds = mine.own.holds;
                   mine = by_more me.0.own.number m.tail e number ∙ ap (λ l. l ++ e ∷ []) mine.own.mine;
                 };
-                others = all_map (λ k f. (longer m.made m.tail m.holder id k e (λ same. f.1 (sym same ∙ number)) f.0, f.1)) me.0.joined mine.others;
+                others = all_map (λ k f. (longer m.passes_made m.tail m.holder id k e (λ same. f.1 (sym same ∙ number)) f.0, f.1)) me.0.joined mine.others;
               })
               (λ seat v ne q. ⊎_elim inl (λ l. inr record {
                 base_is = l.base_is;
                 start_is = l.start_is;
                 ticket = l.ticket;
                 turn = λ p. absurd (ne (alone s r seat id v me.0 q p at has));
-                made = l.made;
-                own = longer m.made m.tail m.holder seat v.own e (other seat ne v.own l.own) l.own;
-                others = all_map (λ k f. (longer m.made m.tail m.holder seat k e (other seat ne k f.0) f.0, f.1)) v.joined l.others;
+                passes_made = l.passes_made;
+                own = longer m.passes_made m.tail m.holder seat v.own e (other seat ne v.own l.own) l.own;
+                others = all_map (λ k f. (longer m.passes_made m.tail m.holder seat k e (other seat ne k f.0) f.0, f.1)) v.joined l.others;
               }) (r.fits seat v q));
           home = λ f. absurd (true≢false (sym turn.2 ∙ f));
           held = λ _. (w, ap (get_elem? (set s.views id w)) owns ∙ set_here s.views id w (inside s.views id me.0 at), has);
@@ -279,7 +279,7 @@ module _ {T B E : Type 0} (base_of : T → B) (entries : T → List (ℕ × E)) 
                 start_is = mine.start_is;
                 ticket = λ u e. absurd (none_is e);
                 turn = λ e. absurd (false≢true e);
-                made = mine.made;
+                passes_made = mine.passes_made;
                 own = mine.own;
                 others = mine.others;
               })
@@ -289,7 +289,7 @@ module _ {T B E : Type 0} (base_of : T → B) (entries : T → List (ℕ × E)) 
                 ticket = λ u e. let h = l.ticket u e in let le : m.served ≤ u = h.0 in
                     let differs : u ≢ m.served = λ same. ne (sym h.2 ∙ (ap m.owner same ∙ owns)) in (omega arith, h.1, h.2);
                 turn = λ p. absurd (ne (alone s r seat id v me.0 q p at has));
-                made = l.made;
+                passes_made = l.passes_made;
                 own = l.own;
                 others = l.others;
               }) (r.fits seat v q));

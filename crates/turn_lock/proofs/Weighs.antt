@@ -5,7 +5,7 @@ use Rattle.std.proofs.lemmas.Bool.{cases_Bool}
 use mathlib.Core.Logic.{dite}
 use native.Mathlib.Decide.{ℕ_discrete}
 use Rattle.turn_lock.specs.declared.chronicle.PassKnowledge.{PassKnowledge}
-use Rattle.turn_lock.specs.Turns.{AllOf, IsKnownAs, Knows, by, weigh}
+use Rattle.turn_lock.specs.Turns.{AllOf, IsKnownAs, Knows, by, total_weight}
 use Rattle.turn_lock.proofs.Lists.{length_map, numbered}
 
 -- the sum of a function over the numbers below n
@@ -46,19 +46,19 @@ below_one (suc n) m w lt = dite (ℕ_discrete m n)
     (λ ne. let rest = below_one n m w (omega arith) in let other = one_else m w n ne in omega arith)
 
 module _ {E : Type 0} (weight : ℕ × E → ℕ) where
-  by_one : (p : ℕ) (e : ℕ × E) (es : List (ℕ × E)) → weigh weight (by p (e ∷ es)) ≡ one_at e.0 (weight e) p + weigh weight (by p es)
+  by_one : (p : ℕ) (e : ℕ × E) (es : List (ℕ × E)) → total_weight weight (by p (e ∷ es)) ≡ one_at e.0 (weight e) p + total_weight weight (by p es)
   by_one p e es = elim (cases_Bool (e.0 == p)) [
     | inl t ↦ rw t refl
     | inr f ↦ rw f (omega arith)
   ]
 
   -- the weight of entries whose numbers are below n, summed number by number
-  by_parts : (n : ℕ) (es : List (ℕ × E)) → AllOf (λ e. e.0 < n) es → weigh weight es ≡ sum_below n (λ p. weigh weight (by p es))
+  by_parts : (n : ℕ) (es : List (ℕ × E)) → AllOf (λ e. e.0 < n) es → total_weight weight es ≡ sum_below n (λ p. total_weight weight (by p es))
   by_parts n [] h = sym (below_zero n)
   by_parts n (e ∷ es) h =
-      let parts : ℕ → ℕ = λ p. weigh weight (by p es) in
+      let parts : ℕ → ℕ = λ p. total_weight weight (by p es) in
       let one = below_one n e.0 (weight e) h.0 in
-      let split = below_same n (λ p. weigh weight (by p (e ∷ es))) (λ p. one_at e.0 (weight e) p + parts p) (λ p. by_one p e es) ∙ below_add n (one_at e.0 (weight e)) parts in
+      let split = below_same n (λ p. total_weight weight (by p (e ∷ es))) (λ p. one_at e.0 (weight e) p + parts p) (λ p. by_one p e es) ∙ below_add n (one_at e.0 (weight e)) parts in
       ap (λ k. weight e + k) (by_parts n es h.1) ∙ (ap (λ k. k + sum_below n parts) (sym one) ∙ sym split)
 
 -- the list without the first occurrence of p
@@ -69,10 +69,10 @@ without_one p (x ∷ xs) = if x == p then xs else x ∷ without_one p xs
 others_know : (p q x : ℕ) (xs : List ℕ) → x ≢ q → Knows q (x ∷ xs) → Knows q xs
 others_know p q x xs ne h = ⊎_elim (λ e. absurd (ne e)) (λ r. r) h
 
-one_weighs : (f : ℕ → ℕ) (p : ℕ) (ns : List ℕ) → Knows p ns → weigh f ns ≡ f p + weigh f (without_one p ns)
+one_weighs : (f : ℕ → ℕ) (p : ℕ) (ns : List ℕ) → Knows p ns → total_weight f ns ≡ f p + total_weight f (without_one p ns)
 one_weighs f p [] h = absurd h
 one_weighs f p (x ∷ xs) h = dite (ℕ_discrete x p)
-    (λ is. rw (eq-eqb x p is) (ap (λ k. f k + weigh f xs) is))
+    (λ is. rw (eq-eqb x p is) (ap (λ k. f k + total_weight f xs) is))
     (λ ne. let rest = one_weighs f p xs (others_know p p x xs ne h) in rw (ne_eqb x p ne) (omega arith))
 
 one_shorter : (p : ℕ) (ns : List ℕ) → Knows p ns → length ns ≡ suc (length (without_one p ns))
@@ -88,7 +88,7 @@ others_stay p q (x ∷ xs) ne h = dite (ℕ_discrete x p)
     (λ other. rw (ne_eqb x p other) (⊎_elim inl (λ r. inr (others_stay p q xs ne r)) h))
 
 -- a list of n numbers that contains every number below n
-each_once : (f : ℕ → ℕ) (n : ℕ) (ns : List ℕ) → length ns ≡ n → ((p : ℕ) → p < n → Knows p ns) → weigh f ns ≡ sum_below n f
+each_once : (f : ℕ → ℕ) (n : ℕ) (ns : List ℕ) → length ns ≡ n → ((p : ℕ) → p < n → Knows p ns) → total_weight f ns ≡ sum_below n f
 each_once f zero [] len all = refl
 each_once f zero (x ∷ xs) len all = absurd (omega arith)
 each_once f (suc n) ns len all =
@@ -99,11 +99,11 @@ each_once f (suc n) ns len all =
     omega arith
 
 module _ {E : Type 0} (weight : ℕ × E → ℕ) (start tail : List (ℕ × E)) where
-  own_weighs : (ks : List (PassKnowledge E)) → AllOf (IsKnownAs start tail) ks → weigh (λ p. weigh weight (by p tail)) (map numbered ks) ≡ weigh (λ k. weigh weight k.mine) ks
+  own_weighs : (ks : List (PassKnowledge E)) → AllOf (IsKnownAs start tail) ks → total_weight (λ p. total_weight weight (by p tail)) (map numbered ks) ≡ total_weight (λ k. total_weight weight k.mine) ks
   own_weighs [] h = refl
-  own_weighs (k ∷ ks) h = ap (λ w. w + weigh (λ p. weigh weight (by p tail)) (map numbered ks)) (ap (weigh weight) h.0.mine) ∙ ap (λ w. weigh weight k.mine + w) (own_weighs ks h.1)
+  own_weighs (k ∷ ks) h = ap (λ w. w + total_weight (λ p. total_weight weight (by p tail)) (map numbered ks)) (ap (total_weight weight) h.0.mine) ∙ ap (λ w. total_weight weight k.mine + w) (own_weighs ks h.1)
 
   -- n passes whose numbers are all those below n have made all entries after the start
-  pub weighs_once : (n : ℕ) (ks : List (PassKnowledge E)) → length ks ≡ n → ((p : ℕ) → p < n → Knows p (map numbered ks)) → AllOf (λ e. e.0 < n) tail → AllOf (IsKnownAs start tail) ks → weigh weight tail ≡ weigh (λ k. weigh weight k.mine) ks
+  pub weighs_once : (n : ℕ) (ks : List (PassKnowledge E)) → length ks ≡ n → ((p : ℕ) → p < n → Knows p (map numbered ks)) → AllOf (λ e. e.0 < n) tail → AllOf (IsKnownAs start tail) ks → total_weight weight tail ≡ total_weight (λ k. total_weight weight k.mine) ks
   weighs_once n ks many all authors known =
-      by_parts weight n tail authors ∙ (sym (each_once (λ p. weigh weight (by p tail)) n (map numbered ks) (length_map numbered ks ∙ many) all) ∙ own_weighs ks known)
+      by_parts weight n tail authors ∙ (sym (each_once (λ p. total_weight weight (by p tail)) n (map numbered ks) (length_map numbered ks ∙ many) all) ∙ own_weighs ks known)

@@ -1,3 +1,3 @@
-pub mod NumberLists
+pub mod NumberList
 pub mod Passes
 pub mod Turns

@@ -29,13 +29,13 @@ by n (e ∷ es) = if e.0 == n then e ∷ by n es else by n es
 -- Whether the history that the pass has seen begins with `start`, and the later entries with the number of the pass are its own.
 pub record IsLegalFor {E : Type 0} (start : List (ℕ × E)) (k : PassKnowledge E) : Type 0 where
   pub tail : List (ℕ × E)
-  pub seen_is : k.seen ≡ start ++ tail
-  pub mine_is : by k.number tail ≡ k.mine
+  pub knows_seen : k.seen ≡ start ++ tail
+  pub knows_mine : by k.number tail ≡ k.mine
 
 -- The sum of the weights of the elements.
-abbrev pub weigh : {X : Type 0} → (X → ℕ) → List X → ℕ
-weigh weight [] = 0
-weigh weight (x ∷ xs) = weight x + weigh weight xs
+abbrev pub total_weight : {X : Type 0} → (X → ℕ) → List X → ℕ
+total_weight weight [] = 0
+total_weight weight (x ∷ xs) = weight x + total_weight weight xs
 
 -- The number of values in an option: 0 or 1.
 abbrev pub one_if : {X : Type 0} → Option X → ℕ
@@ -67,23 +67,23 @@ module _ {E : Type 0} where
 module _ {B E : Type 0} where
   -- The view that is left of a pass that was joined into another.
   abbrev pub nobody : View B E
-  nobody = record { ticket = None; turn = false; made = None; base = None; start = []; own = known 0 [] []; joined = [] }
+  nobody = record { ticket = None; turn = false; passes_made = None; base = None; start = []; own = known 0 [] []; joined = [] }
 
   -- The first view of a lock made over this base and history.
   abbrev pub founder : B → List (ℕ × E) → View B E
-  founder base start = record { ticket = None; turn = false; made = Some 1; base = Some base; start = start; own = known 0 start []; joined = [] }
+  founder base start = record { ticket = None; turn = false; passes_made = Some 1; base = Some base; start = start; own = known 0 start []; joined = [] }
 
   -- The view of the pass that counts passes, once it has made one more.
   abbrev pub one_pass_more : View B E → View B E
-  one_pass_more v = record v { made = option_map (λ n. suc n) v.made }
+  one_pass_more v = record v { passes_made = option_map (λ n. suc n) v.passes_made }
 
   -- The view of a new pass, made from that of the pass that counts passes.
   abbrev pub copy_of : View B E → View B E
-  copy_of v = record { ticket = None; turn = false; made = None; base = v.base; start = v.start; own = known (unwrap_or v.made 0) v.own.seen []; joined = [] }
+  copy_of v = record { ticket = None; turn = false; passes_made = None; base = v.base; start = v.start; own = known (unwrap_or v.passes_made 0) v.own.seen []; joined = [] }
 
   -- The view of pass `n` of a new lock.
   abbrev pub newcomer : B → List (ℕ × E) → ℕ → View B E
-  newcomer base start n = record { ticket = None; turn = false; made = None; base = Some base; start = start; own = known n start []; joined = [] }
+  newcomer base start n = record { ticket = None; turn = false; passes_made = None; base = Some base; start = start; own = known n start []; joined = [] }
 
   -- The views of the passes 1 to `n` of a new lock.
   abbrev pub newcomers : {S : Type 0} → B → List (ℕ × E) → ℕ → List (Me S (View B E))
@@ -93,11 +93,11 @@ module _ {B E : Type 0} where
   -- The views of the first `n` passes of a new lock; the first one counts them.
   abbrev pub made_of : {S : Type 0} → B → List (ℕ × E) → ℕ → List (Me S (View B E))
   made_of base start zero = []
-  made_of base start (suc n) = (record (founder base start) { made = Some (suc n) }, []) ∷ newcomers base start n
+  made_of base start (suc n) = (record (founder base start) { passes_made = Some (suc n) }, []) ∷ newcomers base start n
 
   -- The first view once the second is joined into it.
   abbrev pub joined_view : View B E → View B E → View B E
-  joined_view v w = record v { made = either_of v.made w.made; joined = v.joined ++ w.own ∷ w.joined }
+  joined_view v w = record v { passes_made = either_of v.passes_made w.passes_made; joined = v.joined ++ w.own ∷ w.joined }
 
   -- The number of views that wait or have the turn.
   abbrev pub waiting_in : List (View B E) → ℕ
@@ -111,9 +111,9 @@ module _ {B E : Type 0} where
   module _ (base : B) (start : List (ℕ × E)) where
     -- Whether this knowledge of a pass is right for the history after `start`: the pass has seen a beginning, and its own entries
     -- are those with its number.
-    pub record FitsKnown (made : ℕ) (tail : List (ℕ × E)) (holder : ℕ → ℕ) (seat : ℕ) (k : PassKnowledge E) : Type 0 where
+    pub record FitsKnown (passes_made : ℕ) (tail : List (ℕ × E)) (holder : ℕ → ℕ) (seat : ℕ) (k : PassKnowledge E) : Type 0 where
       pub prefix : StartsWith (start ++ tail) k.seen
-      pub below : k.number < made
+      pub below : k.number < passes_made
       pub holds : holder k.number ≡ seat
       pub mine : by k.number tail ≡ k.mine
 
@@ -123,7 +123,7 @@ module _ {B E : Type 0} where
     pub record Moment : Type 0 where
       pub issued : ℕ
       pub served : ℕ
-      pub made : ℕ
+      pub passes_made : ℕ
       pub keeper : ℕ
       pub tail : List (ℕ × E)
       pub owner : ℕ → ℕ
@@ -138,19 +138,19 @@ module _ {B E : Type 0} where
       pub start_is : v.start ≡ start
       pub ticket : (t : ℕ) → v.ticket ≡ Some t → (m.served ≤ t) × (t < m.issued) × (m.owner t ≡ seat)
       pub turn : v.turn ≡ true → (v.ticket ≡ Some m.served) × (v.own.seen ≡ start ++ m.tail) × (m.taken ≡ true)
-      pub made : (n : ℕ) → v.made ≡ Some n → (n ≡ m.made) × (m.keeper ≡ seat)
-      pub own : FitsKnown m.made m.tail m.holder seat v.own
-      pub others : AllOf (λ k. FitsKnown m.made m.tail m.holder seat k × (k.number ≢ v.own.number)) v.joined
+      pub passes_made : (n : ℕ) → v.passes_made ≡ Some n → (n ≡ m.passes_made) × (m.keeper ≡ seat)
+      pub own : FitsKnown m.passes_made m.tail m.holder seat v.own
+      pub others : AllOf (λ k. FitsKnown m.passes_made m.tail m.holder seat k × (k.number ≢ v.own.number)) v.joined
 
     -- The rule. Each view is that of a pass, or what is left of a pass that was joined into another.
     pub record RuleKept {T : Type 0} (base_of : T → B) (entries : T → List (ℕ × E)) (s : State (Option T) (View B E)) : Type 0 where
       pub at : Moment
       pub words : s.words ≡ at.issued % 2 ^ 64 ∷ at.served % 2 ^ 64 ∷ length (start ++ at.tail) ∷ []
-      pub crowd : length s.views ≡ at.made
-      pub few : at.made ≤ 2 ^ 32
+      pub crowd : length s.views ≡ at.passes_made
+      pub few : at.passes_made ≤ 2 ^ 32
       pub waiting : at.served + waiting_in s.views ≡ at.issued
       pub ticketed : (t : ℕ) → at.served ≤ t → t < at.issued → HasTicket s.views (at.owner t) t
-      pub authors : AllOf (λ e. e.0 < at.made) at.tail
+      pub authors : AllOf (λ e. e.0 < at.passes_made) at.tail
       pub fits : (seat : ℕ) (v : View B E) → get_elem? s.views seat ≡ some v → (v ≡ nobody) ⊎ Live at seat v
       pub home : at.taken ≡ false → (value : T) × (s.homes ≡ some (Some value) ∷ []) × (entries value ≡ start ++ at.tail) × (base_of value ≡ base)
       pub held : at.taken ≡ true → (v : View B E) × (get_elem? s.views (at.owner at.served) ≡ some v) × (v.turn ≡ true)
@@ -215,16 +215,16 @@ pub record IsKnownAs {E : Type 0} (start tail : List (ℕ × E)) (k : PassKnowle
 
 -- Whether this is the history of a closed lock with `n` passes, all of them known: it begins with the first history, and each later
 -- entry has the number of a pass.
-pub record IsWhole {E : Type 0} (n : ℕ) (start log : List (ℕ × E)) (passes : List (PassKnowledge E)) : Type 0 where
+pub record IsClosedHistory {E : Type 0} (n : ℕ) (start log : List (ℕ × E)) (passes : List (PassKnowledge E)) : Type 0 where
   pub tail : List (ℕ × E)
   pub log_is : log ≡ start ++ tail
   pub authors : AllOf (λ e. e.0 < n) tail
   pub known_as : AllOf (IsKnownAs start tail) passes
   -- for any weight, the entries after the first history weigh as much as the passes' own entries together: each entry belongs to
   -- one pass, once
-  pub once : (weight : ℕ × E → ℕ) → weigh weight tail ≡ weigh (λ k. weigh weight k.mine) passes
+  pub once : (weight : ℕ × E → ℕ) → total_weight weight tail ≡ total_weight (λ k. total_weight weight k.mine) passes
 
 -- Whether the first pass counts the passes that were made, and there are `n` of them.
-abbrev pub FirstMade : ℕ → List (Option ℕ) → Type 0
-FirstMade n [] = ⊥
-FirstMade n (o ∷ os) = o ≡ Some n
+abbrev pub CountsPasses : ℕ → List (Option ℕ) → Type 0
+CountsPasses n [] = ⊥
+CountsPasses n (o ∷ os) = o ≡ Some n

@@ -35,7 +35,7 @@ pub struct View<B, E> {
     /// Whether the pass has the turn.
     pub turn: bool,
     /// How many passes were made, for the pass that counts them.
-    pub made: Option<u64>,
+    pub passes_made: Option<u64>,
     /// The lock's base.
     pub base: Option<B>,
     /// The lock's first history.

@@ -1,12 +1,12 @@
 //! How a lock ends: all its passes are joined into one, which then knows that no pass has the turn.
 
 ghost use Rattle.std.specs.Prelude.{◌≡◌, ◌<◌, ◌∷◌, [], IsSome, length, map, unwrap_or, ℕ};
-ghost use Rattle.turn_lock.specs.Passes.{AreAllOf, IsPassIdle, IsPassOf, known_of, made_over, standing};
-ghost use Rattle.turn_lock.specs.Turns.{AllOf, IsWhole, Knows, joined_view};
+ghost use Rattle.turn_lock.specs.Passes.{AreAllOf, IsPassIdle, IsPassOf, known_of, value_under, pass_identity};
+ghost use Rattle.turn_lock.specs.Turns.{AllOf, IsClosedHistory, Knows, joined_view};
 
 use crate::chronicle::Chronicle;
 use crate::lock::{Pass, TurnLock};
-use crate::rule::Both;
+use crate::rule::JoinPasses;
 
 impl<T: Chronicle> TurnLock<T> {
     /// Ends the lock with all its passes, and returns the value. Does not wait.
@@ -15,10 +15,10 @@ impl<T: Chronicle> TurnLock<T> {
     /// seen a beginning of this history. All passes must be given, idle. The first pass that `make` returned must be in front; the
     /// others may come in any order.
     pub fn close(self, passes: Vec<Pass<T>>) -> T
-        requires all { AreAllOf T.base T.entries self (map standing passes.items) }
+        requires all { AreAllOf T.base T.entries self (map pass_identity passes.items) }
         requires idle { AllOf IsPassIdle passes.items }
-        ensures base { T.base result ≡ T.base (made_over self) }
-        ensures whole { IsWhole (length passes.items) (T.entries (made_over self)) (T.entries result) (map known_of passes.items) }
+        ensures base { T.base result ≡ T.base (value_under self) }
+        ensures whole { IsClosedHistory (length passes.items) (T.entries (value_under self)) (T.entries result) (map known_of passes.items) }
     {
         let mut rest = passes.into_iter();
         let Some(mut one) = rest.next() else {
@@ -27,7 +27,7 @@ impl<T: Chronicle> TurnLock<T> {
         for other in rest {
             self.absorb(&mut one, other);
         }
-        self.close_by(one)
+        self.close_joined(one)
     }
 
     // Joins the other pass into this one, which then knows what both knew.
@@ -42,18 +42,20 @@ impl<T: Chronicle> TurnLock<T> {
             ticket: _,
             number: _,
         } = other;
-        self.table.shared.join_seat::<Both>(&mut pass.seat, seat);
+        self.table
+            .shared
+            .join_seat::<JoinPasses>(&mut pass.seat, seat);
     }
 
     // Returns the value once all passes were joined into this one.
-    fn close_by(self, pass: Pass<T>) -> T
+    fn close_joined(self, pass: Pass<T>) -> T
         requires own { IsPassOf T.base T.entries self pass }
         requires idle { IsPassIdle pass }
-        requires makes { IsSome pass.seat.me.0.made }
-        requires many { length (pass.seat.me.0.own ∷ pass.seat.me.0.joined) ≡ unwrap_or pass.seat.me.0.made 0 }
-        requires all { (p : ℕ) → p < unwrap_or pass.seat.me.0.made 0 → Knows p (map (λ k. k.number) (pass.seat.me.0.own ∷ pass.seat.me.0.joined)) }
-        ensures base { T.base result ≡ T.base (made_over self) }
-        ensures whole { IsWhole (unwrap_or pass.seat.me.0.made 0) (T.entries (made_over self)) (T.entries result) (pass.seat.me.0.own ∷ pass.seat.me.0.joined) }
+        requires makes { IsSome pass.seat.me.0.passes_made }
+        requires many { length (pass.seat.me.0.own ∷ pass.seat.me.0.joined) ≡ unwrap_or pass.seat.me.0.passes_made 0 }
+        requires all { (p : ℕ) → p < unwrap_or pass.seat.me.0.passes_made 0 → Knows p (map (λ k. k.number) (pass.seat.me.0.own ∷ pass.seat.me.0.joined)) }
+        ensures base { T.base result ≡ T.base (value_under self) }
+        ensures whole { IsClosedHistory (unwrap_or pass.seat.me.0.passes_made 0) (T.entries (value_under self)) (T.entries result) (pass.seat.me.0.own ∷ pass.seat.me.0.joined) }
     {
         let TurnLock { table } = self;
         let Pass {

@@ -3,7 +3,7 @@
 ghost use Rattle.std.specs.Prelude.{◌≡◌};
 
 use crate::chronicle::{Chronicle, View};
-use crate::rule::InTurn;
+use crate::rule::LockRule;
 use atomic_table::{Seat, Table};
 use std::alloc::Global;
 use std::snapshot::Snapshot;
@@ -13,7 +13,7 @@ use std::snapshot::Snapshot;
 ///
 /// A lock cannot be dropped: `close` ends it together with all its passes.
 pub struct TurnLock<T: Chronicle> {
-    pub(crate) table: Table<Option<T>, View<T::Base, T::Entry>, Snapshot<T>, InTurn<T>, Global>,
+    pub(crate) table: Table<Option<T>, View<T::Base, T::Entry>, Snapshot<T>, LockRule<T>, Global>,
     ghost sized: { (table.shared.table_id.words ≡ 3) × (table.shared.table_id.slots ≡ 1) },
 }
 

@@ -1,12 +1,12 @@
 //! How a lock is made, with all the passes that it will ever have.
 
 ghost use Rattle.std.specs.Prelude.{◌≡◌, ◌<◌, ◌∷◌, [], IfErr, IfOk, Some, map};
-ghost use Rattle.turn_lock.specs.Passes.{AreAllOf, IsPassIdle, IsPassOf, known_of, made_over, standing};
+ghost use Rattle.turn_lock.specs.Passes.{AreAllOf, IsPassIdle, IsPassOf, known_of, value_under, pass_identity};
 ghost use Rattle.turn_lock.specs.Turns.{AllOf, copy_of, each_new, founder, one_pass_more};
 
 use crate::chronicle::Chronicle;
 use crate::lock::{Pass, TurnLock};
-use crate::rule::Part;
+use crate::rule::SplitPass;
 use atomic_table::{Refused, Table};
 use std::alloc::{AllocError as NoMemory, Global};
 use std::snapshot::Snapshot;
@@ -41,8 +41,8 @@ impl<T: Chronicle> TurnLock<T> {
         n: u32,
     ) -> Result<(TurnLock<T>, Vec<Pass<T>>), (NoMemory, T)>
         requires some { 0 < n }
-        ensures key { IfOk result (λ r. made_over r.0 ≡ value) }
-        ensures all { IfOk result (λ r. AreAllOf T.base T.entries r.0 (map standing r.1.items)) }
+        ensures key { IfOk result (λ r. value_under r.0 ≡ value) }
+        ensures all { IfOk result (λ r. AreAllOf T.base T.entries r.0 (map pass_identity r.1.items)) }
         ensures idle { IfOk result (λ r. AllOf IsPassIdle r.1.items) }
         ensures new { IfOk result (λ r. map known_of r.1.items ≡ each_new (T.entries value) n) }
         ensures back { IfErr result (λ e. e.1 ≡ value) }
@@ -56,7 +56,7 @@ impl<T: Chronicle> TurnLock<T> {
             Err(refused) => return Err(refused),
         };
         for number in 1..n {
-            let pass = lock.another(&mut first, number);
+            let pass = lock.next_pass(&mut first, number);
             passes.push_reserved(pass);
         }
         passes.push_reserved(first);
@@ -67,7 +67,7 @@ impl<T: Chronicle> TurnLock<T> {
     // Returns a lock over the value, and its first pass.
     fn open(alloc: Global, value: T) -> Result<(TurnLock<T>, Pass<T>), (NoMemory, T)>
         ensures own { IfOk result (λ r. r.1.seat.table_id ≡ r.0.table.shared.table_id) }
-        ensures key { IfOk result (λ r. made_over r.0 ≡ value) }
+        ensures key { IfOk result (λ r. value_under r.0 ≡ value) }
         ensures pass { IfOk result (λ r. r.1.seat.me ≡ (founder (T.base value) (T.entries value), [])) }
         ensures back { IfErr result (λ e. e.1 ≡ value) }
     {
@@ -92,15 +92,15 @@ impl<T: Chronicle> TurnLock<T> {
     }
 
     // Returns a new pass with the next number. The first pass, `pass`, counts the passes that were made.
-    fn another(&self, pass: &mut Pass<T>, number: u32) -> Pass<T>
+    fn next_pass(&self, pass: &mut Pass<T>, number: u32) -> Pass<T>
         requires own { IsPassOf T.base T.entries self.now pass.old }
         requires idle { IsPassIdle pass.old }
-        requires makes { pass.old.seat.me.0.made ≡ Some number }
+        requires makes { pass.old.seat.me.0.passes_made ≡ Some number }
         ensures own { (pass.new.seat.table_id ≡ self.now.table.shared.table_id) × (result.seat.table_id ≡ self.now.table.shared.table_id) }
         ensures pass { pass.new.seat.me ≡ (one_pass_more pass.old.seat.me.0, []) }
         ensures new { result.seat.me ≡ (copy_of pass.old.seat.me.0, []) }
     {
-        let seat = self.table.shared.split_seat::<Part>(&mut pass.seat);
+        let seat = self.table.shared.split_seat::<SplitPass>(&mut pass.seat);
         Pass {
             seat,
             ticket: 0,

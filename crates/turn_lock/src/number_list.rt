@@ -2,8 +2,8 @@
 //! it.
 
 ghost use Rattle.std.specs.Prelude.{◌≡◌, ◌++◌, ◌∷◌, [], MatchBool, Some, ⊤};
-ghost use Rattle.turn_lock.specs.NumberLists.{history_in, title_of};
-ghost use Rattle.turn_lock.specs.Passes.{IsLegal, IsPassIdle, IsPassOf, mine_of, pass_number, seen_of, standing};
+ghost use Rattle.turn_lock.specs.NumberList.{history_in, title_of};
+ghost use Rattle.turn_lock.specs.Passes.{IsLegal, IsPassIdle, IsPassOf, mine_of, pass_number, seen_of, pass_identity};
 ghost use Rattle.turn_lock.specs.Turns.{StartsWith, last};
 
 use crate::chronicle::Chronicle;
@@ -45,7 +45,7 @@ pub fn append<R: Wait>(
     requires idle { IsPassIdle pass.old }
     ensures own { IsPassOf title_of history_in lock.now pass.new }
     ensures idle { IsPassIdle pass.new }
-    ensures standing { standing pass.new ≡ standing pass.old }
+    ensures standing { pass_identity pass.new ≡ pass_identity pass.old }
     ensures legal { IsLegal pass.new }
     ensures seen { StartsWith (seen_of pass.new) (seen_of pass.old) }
     ensures last { MatchBool result (last (seen_of pass.new) ≡ Some (pass_number pass.old, number)) ⊤ }

@@ -2,12 +2,12 @@
 //! adds to the value (`commit`, any number of times). Then it gives the value back (`leave`).
 
 ghost use Rattle.std.specs.Prelude.{◌≡◌, ◌+◌, ◌<◌, ◌^◌, ◌++◌, ◌∷◌, [], Some, length, ℕ};
-ghost use Rattle.turn_lock.specs.Passes.{HasTurn, IsLegal, IsPassIdle, IsPassOf, known_of, made_over, mine_of, pass_number, seen_of, standing};
+ghost use Rattle.turn_lock.specs.Passes.{HasTurn, IsLegal, IsPassIdle, IsPassOf, known_of, value_under, mine_of, pass_number, seen_of, pass_identity};
 ghost use Rattle.turn_lock.specs.Turns.{StartsWith};
 
 use crate::chronicle::Chronicle;
 use crate::lock::{Pass, Turn, TurnLock};
-use crate::rule::{AddsEntry, Count, Draw, Leave, TicketLook};
+use crate::rule::{AddsEntry, CheckTicket, CountEntry, DrawTicket, ServeNext};
 use std::marker::Brand;
 use std::sync::Wait;
 use std::thread;
@@ -33,16 +33,16 @@ impl<T: Chronicle> TurnLock<T> {
         ensures own { IsPassOf T.base T.entries self.now pass.new }
         ensures turn { HasTurn pass.new }
         ensures value { T.entries result.value ≡ seen_of pass.new }
-        ensures base { T.base result.value ≡ T.base (made_over self.now) }
+        ensures base { T.base result.value ≡ T.base (value_under self.now) }
         ensures seen { StartsWith (seen_of pass.new) (seen_of pass.old) }
         ensures mine { mine_of pass.new ≡ mine_of pass.old }
         ensures legal { IsLegal pass.new }
-        ensures standing { standing pass.new ≡ standing pass.old }
+        ensures standing { pass_identity pass.new ≡ pass_identity pass.old }
     {
         let shared = &self.table.shared;
-        pass.ticket = shared.fetch_add::<Draw>(&mut pass.seat, 0, 1);
+        pass.ticket = shared.fetch_add::<DrawTicket>(&mut pass.seat, 0, 1);
         for _ in rt.forever() {
-            let serving = shared.load::<TicketLook>(&mut pass.seat, 1);
+            let serving = shared.load::<CheckTicket>(&mut pass.seat, 1);
             if serving == pass.ticket {
                 let value = shared.exchange(&mut pass.seat, 0, None).unwrap();
                 return Turn { value };
@@ -62,12 +62,12 @@ impl<T: Chronicle> TurnLock<T> {
         ensures turn { HasTurn pass.new }
         ensures seen { (e : ℕ × T.Entry) → W.said ≡ Some e → seen_of pass.new ≡ seen_of pass.old ++ e ∷ [] }
         ensures mine { (e : ℕ × T.Entry) → W.said ≡ Some e → mine_of pass.new ≡ mine_of pass.old ++ e ∷ [] }
-        ensures standing { standing pass.new ≡ standing pass.old }
+        ensures standing { pass_identity pass.new ≡ pass_identity pass.old }
     {
         let _ = turn;
         self.table
             .shared
-            .fetch_add::<Count<W>>(&mut pass.seat, 2, 1);
+            .fetch_add::<CountEntry<W>>(&mut pass.seat, 2, 1);
     }
 
     /// Counts one more entry of the history, made by this pass. This is the only call that lengthens the history.
@@ -78,7 +78,7 @@ impl<T: Chronicle> TurnLock<T> {
         requires own { IsPassOf T.base T.entries self.now pass.old }
         requires turn { HasTurn pass.old }
         requires entry { (e : ℕ × T.Entry) × (T.entries turn.old.value ≡ seen_of pass.old ++ e ∷ []) × (e.0 ≡ pass_number pass.old) }
-        requires base { T.base turn.old.value ≡ T.base (made_over self.now) }
+        requires base { T.base turn.old.value ≡ T.base (value_under self.now) }
         requires few { length (seen_of pass.old) + 1 < 2 ^ 64 }
         ensures own { IsPassOf T.base T.entries self.now pass.new }
         ensures value { turn.new ≡ turn.old }
@@ -86,7 +86,7 @@ impl<T: Chronicle> TurnLock<T> {
         ensures seen { seen_of pass.new ≡ T.entries turn.old.value }
         ensures mine { (e : ℕ × T.Entry) → T.entries turn.old.value ≡ seen_of pass.old ++ e ∷ [] → mine_of pass.new ≡ mine_of pass.old ++ e ∷ [] }
         ensures legal { IsLegal pass.old → IsLegal pass.new }
-        ensures standing { standing pass.new ≡ standing pass.old }
+        ensures standing { pass_identity pass.new ≡ pass_identity pass.old }
     {
         self.count_up::<Brand>(pass, turn);
     }
@@ -100,17 +100,17 @@ impl<T: Chronicle> TurnLock<T> {
         requires own { IsPassOf T.base T.entries self.now pass.old }
         requires turn { HasTurn pass.old }
         requires value { T.entries turn.value ≡ seen_of pass.old }
-        requires base { T.base turn.value ≡ T.base (made_over self.now) }
+        requires base { T.base turn.value ≡ T.base (value_under self.now) }
         ensures own { IsPassOf T.base T.entries self.now pass.new }
         ensures idle { IsPassIdle pass.new }
         ensures known { known_of pass.new ≡ known_of pass.old }
-        ensures standing { standing pass.new ≡ standing pass.old }
+        ensures standing { pass_identity pass.new ≡ pass_identity pass.old }
     {
         let Turn { value } = turn;
         let shared = &self.table.shared;
         let empty = shared.exchange(&mut pass.seat, 0, Some(value));
         let None = empty else { unreachable!() };
         let next = pass.ticket.wrapping_add(1);
-        shared.store::<Leave>(&mut pass.seat, 1, next);
+        shared.store::<ServeNext>(&mut pass.seat, 1, next);
     }
 }

@@ -11,7 +11,7 @@ use Rattle.pack_defs.specs.Lists.{has_entry, is_empty, is_in}
 use Rattle.assign_check.specs.Fault.{IsCleanOn}
 use Rattle.pack_defs.proofs.Members.{list_all-gives}
 use Rattle.pack_defs.proofs.Words.{Contains-from_has_entry}
-use Rattle.assign_check.specs.Violations.{violations}
+use Rattle.assign_check.specs.Assignment.{violations}
 use Rattle.assign_check.proofs.CountLaws.{any-violated, counted-clean}
 use Rattle.cert_types.specs.declared.task.Task.{Task}
 use Rattle.cert_types.specs.declared.answer.Answer.TheVariants.{Fit, Refuted, Spent}
@@ -20,10 +20,10 @@ use Rattle.cert_types.specs.declared.answer.Receipt.TheVariants.{Moves}
 use Rattle.cert_types.specs.Query.{IsQuery, has_channels, is_on_domains}
 use Rattle.cert_types.specs.Refutes.{is_dead}
 use Rattle.cert_types.specs.Valid.{IsValid, learns}
-use Rattle.cert_types.specs.Walks.{AreSpentMoves, least_of, start_map, violates_some}
+use Rattle.cert_types.specs.Moves.{AreSpentMoves, least_of, start_map, violates_some}
 use Rattle.cert_types.proofs.Meaning.{means-dead, means-fit, means-moves}
 use Rattle.cert_types.proofs.QueryLaws.{query-parts}
-use Rattle.walk_repack.specs.Course.{AreOnDomains, WalkCourseView, IsWalkCourse}
+use Rattle.walk_repack.specs.WalkState.{AreOnDomains, WalkStateView, IsWalkState}
 use Rattle.walk_repack.specs.Steps.{map_stations}
 
 -- ---- the start map
@@ -68,15 +68,15 @@ start-stations book last [] = refl
 start-stations book last (s ∷ ss) = ap (λ rest. s ∷ rest) (start-stations book last ss)
 
 -- The stations of a walk from the start map are the set.
-pub course-stations : (book : BookView) (task : Task) (v : WalkCourseView) → IsWalkCourse v → v.start ≡ start_map book task.last task.set → map_stations v.entries ≡ task.set
-course-stations book task v h e = h.stations ∙ ap map_stations e ∙ start-stations book task.last task.set
+pub walk_state-stations : (book : BookView) (task : Task) (v : WalkStateView) → IsWalkState v → v.start ≡ start_map book task.last task.set → map_stations v.entries ≡ task.set
+walk_state-stations book task v h e = h.stations ∙ ap map_stations e ∙ start-stations book task.last task.set
 
 -- ---- a fit
 
 no-number : (n : ℕ) → nat_lt 0 n ≡ false → n ≡ 0
 no-number n h = grind (arith, nat_tests)
 
-pub fit-valid : (book : BookView) (task : Task) (worker : Worker) (v : WalkCourseView) (delta : List (ℕ × ℕ)) → IsWalkCourse v → v.book ≡ book → map_stations v.entries ≡ task.set → violates_some v.book v.entries ≡ false → overlaid task.last delta ≡ v.entries → IsValid book task worker (Fit delta)
+pub fit-valid : (book : BookView) (task : Task) (worker : Worker) (v : WalkStateView) (delta : List (ℕ × ℕ)) → IsWalkState v → v.book ≡ book → map_stations v.entries ≡ task.set → violates_some v.book v.entries ≡ false → overlaid task.last delta ≡ v.entries → IsValid book task worker (Fit delta)
 fit-valid book task worker v delta h b e clean over =
     let on : (x : ℕ × ℕ) → has_entry v.entries x ≡ true → is_in (domain_of v.book x.0) x.1 ≡ true =
     λ x k. list_all-gives (λ (y : ℕ × ℕ). is_in (domain_of v.book y.0) y.1) v.entries x h.on_domains (Contains-from_has_entry v.entries x k) in
@@ -86,7 +86,7 @@ fit-valid book task worker v delta h b e clean over =
 
 -- ---- a receipt
 
-pub receipt-valid : (task : Task) (worker : Worker) (v : WalkCourseView) (moves : List (ℕ × ℕ)) → IsWalkCourse v → violates_some v.book v.entries ≡ true → v.start ≡ start_map v.book task.last task.set → learns worker.kind ≡ false → length v.moves ≡ worker.budget → moves ≡ v.moves → IsValid v.book task worker (Spent (Moves moves))
+pub receipt-valid : (task : Task) (worker : Worker) (v : WalkStateView) (moves : List (ℕ × ℕ)) → IsWalkState v → violates_some v.book v.entries ≡ true → v.start ≡ start_map v.book task.last task.set → learns worker.kind ≡ false → length v.moves ≡ worker.budget → moves ≡ v.moves → IsValid v.book task worker (Spent (Moves moves))
 receipt-valid task worker v moves h some start walker whole e =
     subst (λ (ms : List (ℕ × ℕ)). IsValid v.book task worker (Spent (Moves ms))) (sym e)
     (means-moves v.book task worker v.moves (record {
@@ -97,6 +97,6 @@ receipt-valid task worker v moves h some start walker whole e =
 
 -- ---- a dead pair
 
-pub dead-valid : (task : Task) (worker : Worker) (v : WalkCourseView) (p : Pair) → IsWalkCourse v → is_dead v.book (map_stations v.entries) p ≡ true → v.start ≡ start_map v.book task.last task.set → IsValid v.book task worker (Refuted (Dead p))
+pub dead-valid : (task : Task) (worker : Worker) (v : WalkStateView) (p : Pair) → IsWalkState v → is_dead v.book (map_stations v.entries) p ≡ true → v.start ≡ start_map v.book task.last task.set → IsValid v.book task worker (Refuted (Dead p))
 dead-valid task worker v p h dead start =
-    means-dead v.book task worker p (subst (λ (xs : List ℕ). is_dead v.book xs p ≡ true) (course-stations v.book task v h start) dead)
+    means-dead v.book task worker p (subst (λ (xs : List ℕ). is_dead v.book xs p ≡ true) (walk_state-stations v.book task v h start) dead)

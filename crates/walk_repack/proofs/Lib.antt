@@ -1,4 +1,4 @@
-pub mod CourseLemmas
+pub mod WalkStateLemmas
 pub mod PickLemmas
-pub mod LookLemmas
+pub mod MapStatusLemmas
 pub mod AnswerLemmas

@@ -6,7 +6,7 @@ use Rattle.pack_defs.specs.Book.{BookView}
 use Rattle.pack_defs.specs.Lists.{has_entry}
 use Rattle.pack_defs.proofs.Members.{Contains-from_filter, Contains-here, Contains-there}
 use Rattle.assign_check.specs.Fault.{is_violated}
-use Rattle.walk_repack.specs.Course.{IsViolated}
+use Rattle.walk_repack.specs.WalkState.{IsViolated}
 
 -- A pair of a part of the book's pairs is a pair of the book.
 pub kept-listed : (keep : Pair → Bool) (pairs some : List Pair) (p : Pair) → some ≡ filter keep pairs → Contains some p → Contains pairs p

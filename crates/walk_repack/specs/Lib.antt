@@ -1,2 +1,2 @@
-pub mod Course
+pub mod WalkState
 pub mod Steps

@@ -1,10 +1,10 @@
 //! The policy of the walk: which violated pair to pick, which of its stations to move, and to which channel.
 
 use crate::chance::Chance;
-use crate::memory::Memory;
 use crate::pick::Pick;
-use crate::policy::{BEHIND_OPEN, SHORTEST_CLOSED, SPREAD_CLOSED};
+use crate::policy::{LEAST_TABU_MOVES, TABU_MOVES_SPREAD, TABU_PENALTY};
 use crate::tables::Tables;
+use crate::tabu_memory::TabuMemory;
 use pack_defs::book::Book;
 use std::alloc::{AllocError as NoMemory, Global};
 
@@ -13,7 +13,7 @@ use std::alloc::{AllocError as NoMemory, Global};
 #[derive(Drop)]
 pub(crate) struct Guide<'a> {
     tables: Tables<'a>,
-    memory: Memory,
+    tabu_memory: TabuMemory,
     chance: Chance,
 }
 
@@ -27,10 +27,10 @@ impl<'a> Guide<'a> {
         stream: u64,
     ) -> Result<Guide<'a>, NoMemory> {
         let tables = Tables::new(alloc, book, entries)?;
-        let memory = Memory::new(alloc, tables.cells())?;
+        let tabu_memory = TabuMemory::new(alloc, tables.cells())?;
         Ok(Guide {
             tables,
-            memory,
+            tabu_memory,
             chance: Chance::new(seed, stream),
         })
     }
@@ -41,7 +41,7 @@ impl<'a> Guide<'a> {
             return None;
         }
         let n = self.chance.below(self.tables.troubled());
-        let (station, channel) = self.tables.troubled_at(n);
+        let (station, channel) = self.tables.violating_at(n);
         let count = self.tables.count(self.tables.cell(station, channel));
         let skip = self.chance.below(count);
         self.tables.violated(station, channel, skip)
@@ -83,17 +83,18 @@ impl<'a> Guide<'a> {
         self.tables.shift(station, from, to);
         let moves = self
             .chance
-            .below(SPREAD_CLOSED)
-            .saturating_add(SHORTEST_CLOSED);
-        self.memory.leave(self.tables.cell(station, from), moves);
+            .below(TABU_MOVES_SPREAD)
+            .saturating_add(LEAST_TABU_MOVES);
+        self.tabu_memory
+            .leave(self.tables.cell(station, from), moves);
     }
 
     // Returns the number of pairs that a station would violate on a channel, plus a penalty if the channel is closed to the station.
     fn cost(&self, station: u32, channel: u8) -> u32 {
         let cell = self.tables.cell(station, channel);
         let count = self.tables.count(cell);
-        if self.memory.is_closed(cell) {
-            count.saturating_add(BEHIND_OPEN)
+        if self.tabu_memory.is_closed(cell) {
+            count.saturating_add(TABU_PENALTY)
         } else {
             count
         }

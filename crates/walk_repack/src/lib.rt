@@ -9,21 +9,21 @@
 //!
 //! - `walk`: the solver as other crates see it.
 //! - `steps`: the loop of the walk.
-//! - `course`, `look`, `pick`: the verified state, and which violated pair and station come next.
+//! - `walk_state`, `map_status`, `pick`: the verified state, and which violated pair and station come next.
 //! - `answers`: from the end of a walk to an answer.
-//! - `policy`, `guide`, `tables`, `trouble`, `places`, `memory`, `chance`: policy, which no proof depends on.
+//! - `policy`, `guide`, `tables`, `violating_stations`, `places`, `tabu_memory`, `chance`: policy, which no proof depends on.
 #![tactic(auto)]
 
 mod answers;
 mod chance;
-mod course;
 mod guide;
-mod look;
-mod memory;
+mod map_status;
 mod pick;
 mod places;
 mod policy;
 mod steps;
 mod tables;
-mod trouble;
+mod tabu_memory;
+mod violating_stations;
 pub mod walk;
+mod walk_state;

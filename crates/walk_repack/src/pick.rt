@@ -5,10 +5,10 @@ ghost use Rattle.pack_defs.specs.declared.pair.Pair.{Pair};
 ghost use Rattle.pack_defs.specs.ChannelMap.{IsAscending};
 ghost use Rattle.pack_defs.specs.Lists.{has_entry};
 ghost use Rattle.assign_check.specs.Fault.{is_violated};
-ghost use Rattle.cert_types.specs.Walks.{violates_some};
-ghost use Rattle.walk_repack.specs.Course.{IsViolated};
+ghost use Rattle.cert_types.specs.Moves.{violates_some};
+ghost use Rattle.walk_repack.specs.WalkState.{IsViolated};
 
-use crate::course::WalkCourse;
+use crate::walk_state::WalkState;
 use pack_defs::book::Book;
 use pack_defs::pair::Pair;
 
@@ -22,21 +22,21 @@ pub(crate) struct Pick {
 
 /// Returns a violated pair of the walk's map: the picked one, if it is violated, otherwise the first of all, if there is one. Without a
 /// violated pick the cost is a pass over the pairs from each station.
-pub(crate) fn violated(book: &Book, course: &WalkCourse, pick: Option<Pick>) -> Option<Pair>
-    requires { book.now ≡ course.now.book }
-    ensures some { IfSome result (λ p. IsViolated course.now.book course.now.entries p) }
-    ensures none { IfNone result (violates_some course.now.book course.now.entries ≡ false) }
+pub(crate) fn violated(book: &Book, walk_state: &WalkState, pick: Option<Pick>) -> Option<Pair>
+    requires { book.now ≡ walk_state.now.book }
+    ensures some { IfSome result (λ p. IsViolated walk_state.now.book walk_state.now.entries p) }
+    ensures none { IfNone result (violates_some walk_state.now.book walk_state.now.entries ≡ false) }
 {
-    if let Some(pair) = picked(book, course, pick) {
+    if let Some(pair) = picked_pair(book, walk_state, pick) {
         return Some(pair);
     }
-    first_violated(book, course)
+    first_violated(book, walk_state)
 }
 
 // Returns the picked pair, if it exists and is violated.
-fn picked(book: &Book, course: &WalkCourse, pick: Option<Pick>) -> Option<Pair>
-    requires { book.now ≡ course.now.book }
-    ensures { IfSome result (λ p. IsViolated course.now.book course.now.entries p) }
+fn picked_pair(book: &Book, walk_state: &WalkState, pick: Option<Pick>) -> Option<Pair>
+    requires { book.now ≡ walk_state.now.book }
+    ensures { IfSome result (λ p. IsViolated walk_state.now.book walk_state.now.entries p) }
 {
     let Some(pick) = pick else {
         return None;
@@ -46,7 +46,7 @@ fn picked(book: &Book, course: &WalkCourse, pick: Option<Pick>) -> Option<Pair>
         return None;
     }
     let pair = pairs[pick.index];
-    if course.stands(pair.f, pair.a) && course.stands(pair.g, pair.b) {
+    if walk_state.is_on_channel(pair.f, pair.a) && walk_state.is_on_channel(pair.g, pair.b) {
         return Some(pair);
     }
     None
@@ -63,14 +63,14 @@ fn listed(book: &Book, pick: Pick) -> &[Pair]
 }
 
 // Returns the first violated pair, by a pass over the pairs from each station.
-fn first_violated(book: &Book, course: &WalkCourse) -> Option<Pair>
-    requires { book.now ≡ course.now.book }
-    ensures some { IfSome result (λ p. IsViolated course.now.book course.now.entries p) }
-    ensures none { IfNone result (violates_some course.now.book course.now.entries ≡ false) }
+fn first_violated(book: &Book, walk_state: &WalkState) -> Option<Pair>
+    requires { book.now ≡ walk_state.now.book }
+    ensures some { IfSome result (λ p. IsViolated walk_state.now.book walk_state.now.entries p) }
+    ensures none { IfNone result (violates_some walk_state.now.book walk_state.now.entries ≡ false) }
 {
-    course.keeps_course();
-    for x in course.entries() {
-        if let Some(pair) = violated_from(book, course, *x) {
+    walk_state.keeps_walk_state();
+    for x in walk_state.entries() {
+        if let Some(pair) = violated_from(book, walk_state, *x) {
             return Some(pair);
         }
     }
@@ -78,14 +78,14 @@ fn first_violated(book: &Book, course: &WalkCourse) -> Option<Pair>
 }
 
 // Returns the first violated pair from this entry's station.
-fn violated_from(book: &Book, course: &WalkCourse, own: (u32, u8)) -> Option<Pair>
-    requires book { book.now ≡ course.now.book }
-    requires ascending { IsAscending course.now.entries }
-    requires own { has_entry course.now.entries own ≡ true }
-    ensures { result ≡ find (is_violated course.now.entries) (filter (λ p. p.f == own.0) course.now.book.pairs) }
+fn violated_from(book: &Book, walk_state: &WalkState, own: (u32, u8)) -> Option<Pair>
+    requires book { book.now ≡ walk_state.now.book }
+    requires ascending { IsAscending walk_state.now.entries }
+    requires own { has_entry walk_state.now.entries own ≡ true }
+    ensures { result ≡ find (is_violated walk_state.now.entries) (filter (λ p. p.f == own.0) walk_state.now.book.pairs) }
 {
     for p in book.pairs_from(own.0) {
-        if p.a == own.1 && course.stands(p.g, p.b) {
+        if p.a == own.1 && walk_state.is_on_channel(p.g, p.b) {
             return Some(*p);
         }
     }

@@ -7,14 +7,14 @@ pub(crate) const MOVES_BETWEEN_POLLS: usize = 1024;
 
 /// A channel is closed to a station that left it for at least this many moves, so that the walk doesn't move back and forth. Chosen
 /// without a measurement.
-pub(crate) const SHORTEST_CLOSED: u32 = 3;
+pub(crate) const LEAST_TABU_MOVES: u32 = 3;
 
 /// The random number of additional closed moves is below this, so that a walk doesn't cycle. Chosen without a measurement.
-pub(crate) const SPREAD_CLOSED: u32 = 10;
+pub(crate) const TABU_MOVES_SPREAD: u32 = 10;
 
 /// A closed channel counts as if the station violated this many more pairs on it, so it comes after every open channel. Chosen without a
 /// measurement.
-pub(crate) const BEHIND_OPEN: u32 = 1 << 24;
+pub(crate) const TABU_PENALTY: u32 = 1 << 24;
 
 /// The fewest slots in which stations are looked up. Chosen without a measurement.
 pub(crate) const LEAST_SLOTS: usize = 64;

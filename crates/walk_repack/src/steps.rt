@@ -7,10 +7,10 @@
 ghost use Rattle.std.specs.Prelude.{ℕ, ◌≡◌, ◌≤◌, IfOk, length};
 ghost use Rattle.walk_repack.specs.Steps.{WalkEndIs, WalkStepIs};
 
-use crate::course::WalkCourse;
 use crate::guide::Guide;
-use crate::look::{Sight, look, other_channel};
+use crate::map_status::{MapStatus, map_status, other_channel};
 use crate::policy::MOVES_BETWEEN_POLLS;
+use crate::walk_state::WalkState;
 use cert_types::poll::{Poll, moved};
 use pack_defs::book::Book;
 use pack_defs::pair::Pair;
@@ -44,49 +44,49 @@ pub(crate) enum WalkEnd {
 /// than `number`.
 pub(crate) fn run<P: Poll>(
     book: &Book,
-    course: &mut WalkCourse,
+    walk_state: &mut WalkState,
     guide: &mut Guide,
     budget: u32,
     number: u64,
     poll: &mut P,
 ) -> Result<WalkEnd, NoMemory>
-    requires book { book.now ≡ course.old.book }
-    requires few { length course.old.moves ≤ budget }
-    ensures book { course.new.book ≡ course.old.book }
-    ensures start { course.new.start ≡ course.old.start }
-    ensures outcome { IfOk result (λ outcome. WalkEndIs course.new budget number (P.last poll.new) outcome) }
+    requires book { book.now ≡ walk_state.old.book }
+    requires few { length walk_state.old.moves ≤ budget }
+    ensures book { walk_state.new.book ≡ walk_state.old.book }
+    ensures start { walk_state.new.start ≡ walk_state.old.start }
+    ensures outcome { IfOk result (λ outcome. WalkEndIs walk_state.new budget number (P.last poll.new) outcome) }
     ensures goes { P.goes poll.old poll.new }
 {
-    'moves: while course.len() < budget as usize {
-        if let Some(now) = moved(poll, number, course.len(), MOVES_BETWEEN_POLLS) {
+    'moves: while walk_state.len() < budget as usize {
+        if let Some(now) = moved(poll, number, walk_state.len(), MOVES_BETWEEN_POLLS) {
             return Ok(WalkEnd::Moved { now });
         }
-        match advance(book, course, guide)? {
+        match advance(book, walk_state, guide)? {
             WalkStep::Clean => return Ok(WalkEnd::Clean),
             WalkStep::Dead(pair) => return Ok(WalkEnd::Dead(pair)),
             WalkStep::Made => {}
         }
     }
-    Ok(last_look(book, course, guide))
+    Ok(final_status(book, walk_state, guide))
 }
 
 // Makes a move, if a move is possible.
-fn advance(book: &Book, course: &mut WalkCourse, guide: &mut Guide) -> Result<WalkStep, NoMemory>
-    requires book { book.now ≡ course.old.book }
-    ensures book { course.new.book ≡ course.old.book }
-    ensures start { course.new.start ≡ course.old.start }
-    ensures step { IfOk result (λ step. WalkStepIs course.old course.new step) }
+fn advance(book: &Book, walk_state: &mut WalkState, guide: &mut Guide) -> Result<WalkStep, NoMemory>
+    requires book { book.now ≡ walk_state.old.book }
+    ensures book { walk_state.new.book ≡ walk_state.old.book }
+    ensures start { walk_state.new.start ≡ walk_state.old.start }
+    ensures step { IfOk result (λ step. WalkStepIs walk_state.old walk_state.new step) }
 {
     book.keeps_order();
-    course.keeps_course();
-    match look(book, course, guide) {
-        Sight::Clean => Ok(WalkStep::Clean),
-        Sight::Dead(pair) => Ok(WalkStep::Dead(pair)),
-        Sight::Open { station, channel } => {
+    walk_state.keeps_walk_state();
+    match map_status(book, walk_state, guide) {
+        MapStatus::Clean => Ok(WalkStep::Clean),
+        MapStatus::Dead(pair) => Ok(WalkStep::Dead(pair)),
+        MapStatus::Open { station, channel } => {
             let domain = book.domain(station);
             let at = guide.channel(domain, station, channel);
             let to = other_channel(domain, channel, at);
-            course.make(station, to)?;
+            walk_state.make(station, to)?;
             guide.note(station, channel, to);
             Ok(WalkStep::Made)
         }
@@ -94,14 +94,14 @@ fn advance(book: &Book, course: &mut WalkCourse, guide: &mut Guide) -> Result<Wa
 }
 
 // Returns how a walk ends whose budget is spent.
-fn last_look(book: &Book, course: &WalkCourse, guide: &mut Guide) -> WalkEnd
-    requires { book.now ≡ course.now.book }
-    ensures { (number last : ℕ) → WalkEndIs course.now (length course.now.moves) number last result }
+fn final_status(book: &Book, walk_state: &WalkState, guide: &mut Guide) -> WalkEnd
+    requires { book.now ≡ walk_state.now.book }
+    ensures { (number last : ℕ) → WalkEndIs walk_state.now (length walk_state.now.moves) number last result }
 {
-    match look(book, course, guide) {
-        Sight::Clean => WalkEnd::Clean,
-        Sight::Dead(pair) => WalkEnd::Dead(pair),
-        Sight::Open {
+    match map_status(book, walk_state, guide) {
+        MapStatus::Clean => WalkEnd::Clean,
+        MapStatus::Dead(pair) => WalkEnd::Dead(pair),
+        MapStatus::Open {
             station: _,
             channel: _,
         } => WalkEnd::Spent,

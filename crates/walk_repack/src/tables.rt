@@ -6,7 +6,7 @@
 
 use crate::pick::Pick;
 use crate::places::Places;
-use crate::trouble::Trouble;
+use crate::violating_stations::ViolatingStations;
 use pack_defs::book::Book;
 use pack_defs::pair::Pair;
 use std::alloc::{AllocError as NoMemory, Global};
@@ -24,7 +24,7 @@ pub(crate) struct Tables<'a> {
     // A cell for each place and channel, with `width` channels to a place.
     width: usize,
     counts: Vec<u32>,
-    trouble: Trouble,
+    violating_stations: ViolatingStations,
 }
 
 impl<'a> Tables<'a> {
@@ -53,7 +53,7 @@ impl<'a> Tables<'a> {
             channels: channels_of(alloc, entries)?,
             width,
             counts: Vec::new(alloc),
-            trouble: Trouble::new(alloc, entries.len())?,
+            violating_stations: ViolatingStations::new(alloc, entries.len())?,
         })
     }
 
@@ -63,7 +63,7 @@ impl<'a> Tables<'a> {
             .resize(entries.len().saturating_mul(self.width), 0)?;
         for x in entries {
             let (from, to) = (book.pairs_from(x.0), book.pairs_to(x.0));
-            self.arrive(from, to, x.1);
+            self.count_station(from, to, x.1);
             self.from.push(from)?;
             self.to.push(to)?;
         }
@@ -94,12 +94,12 @@ impl<'a> Tables<'a> {
 
     /// Returns the number of stations of violated pairs.
     pub(crate) fn troubled(&self) -> u32 {
-        self.trouble.len()
+        self.violating_stations.len()
     }
 
     /// Returns the n-th station of a violated pair, and its channel.
-    pub(crate) fn troubled_at(&self, n: u32) -> (u32, u8) {
-        let place = self.trouble.get(n);
+    pub(crate) fn violating_at(&self, n: u32) -> (u32, u8) {
+        let place = self.violating_stations.get(n);
         (self.places.station(place), self.channel_at(place))
     }
 
@@ -112,7 +112,7 @@ impl<'a> Tables<'a> {
             if pair.a != channel {
                 break;
             }
-            if self.stands(pair.g, pair.b) {
+            if self.is_on_channel(pair.g, pair.b) {
                 if left == 0 {
                     return Some(Pick {
                         station,
@@ -129,7 +129,7 @@ impl<'a> Tables<'a> {
     fn violated_to(&self, station: u32, channel: u8, skip: u32) -> Option<Pick> {
         let mut left = skip;
         for (i, pair) in self.pairs_to(station).iter().enumerate() {
-            if pair.b == channel && self.stands(pair.f, pair.a) {
+            if pair.b == channel && self.is_on_channel(pair.f, pair.a) {
                 if left == 0 {
                     return Some(Pick {
                         station,
@@ -162,11 +162,11 @@ impl<'a> Tables<'a> {
                 self.raise(pair.f, pair.a);
             }
         }
-        self.stand(place, to);
+        self.set_channel_at(place, to);
     }
 
     // Counts a station that is on a channel from the start.
-    fn arrive(&mut self, from: &[Pair], to: &[Pair], channel: u8) {
+    fn count_station(&mut self, from: &[Pair], to: &[Pair], channel: u8) {
         for pair in on_channel(from, channel) {
             self.raise(pair.g, pair.b);
         }
@@ -178,12 +178,12 @@ impl<'a> Tables<'a> {
     }
 
     // Puts the station of a place on a channel.
-    fn stand(&mut self, place: usize, channel: u8) {
+    fn set_channel_at(&mut self, place: usize, channel: u8) {
         if place < self.channels.len() {
             self.channels[place] = channel;
         }
-        let troubled = self.count(self.cell_at(place, channel)) > 0;
-        self.trouble.set(place, troubled);
+        let violating = self.count(self.cell_at(place, channel)) > 0;
+        self.violating_stations.set(place, violating);
     }
 
     fn raise(&mut self, station: u32, channel: u8) {
@@ -194,7 +194,7 @@ impl<'a> Tables<'a> {
         if cell < self.counts.len() {
             self.counts[cell] = self.counts[cell].saturating_add(1);
             if self.channel_at(place) == channel {
-                self.trouble.set(place, true);
+                self.violating_stations.set(place, true);
             }
         }
     }
@@ -207,7 +207,7 @@ impl<'a> Tables<'a> {
         if cell < self.counts.len() {
             self.counts[cell] = self.counts[cell].saturating_sub(1);
             if self.counts[cell] == 0 && self.channel_at(place) == channel {
-                self.trouble.set(place, false);
+                self.violating_stations.set(place, false);
             }
         }
     }
@@ -221,7 +221,7 @@ impl<'a> Tables<'a> {
         listed(&self.to, self.places.place(station))
     }
 
-    fn stands(&self, station: u32, channel: u8) -> bool {
+    fn is_on_channel(&self, station: u32, channel: u8) -> bool {
         match self.places.place(station) {
             Some(place) => self.channel_at(place) == channel,
             None => false,

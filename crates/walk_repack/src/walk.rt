@@ -2,15 +2,15 @@
 
 ghost use Rattle.std.specs.Prelude.{ℕ, ◌≡◌, [], IfOk, false};
 ghost use Rattle.cert_types.specs.Valid.{learns};
-ghost use Rattle.cert_types.specs.Walks.{start_map};
+ghost use Rattle.cert_types.specs.Moves.{start_map};
 ghost use Rattle.walk_repack.specs.Steps.{WalkEndIs};
 ghost use Rattle.pack_defs.specs.declared.worker.Kind.{Kind};
 ghost use Rattle.cert_types.specs.Query.{AttemptIs, IsQuery};
 
 use crate::answers::{fit, receipt, refutation};
-use crate::course::WalkCourse;
 use crate::guide::Guide;
 use crate::steps::{WalkEnd, run};
+use crate::walk_state::WalkState;
 use cert_types::poll::{Attempt, Poll};
 use cert_types::start::start_map;
 use cert_types::task::Task;
@@ -74,54 +74,54 @@ impl Walk {
         ensures goes { P.goes poll.old poll.new }
     {
         let worker = self.worker;
-        let mut course = begin(alloc, book, task)?;
-        let mut guide = Guide::new(alloc, book, course.entries(), worker.seed, task.number)?;
+        let mut walk_state = begin(alloc, book, task)?;
+        let mut guide = Guide::new(alloc, book, walk_state.entries(), worker.seed, task.number)?;
         let outcome = run(
             book,
-            &mut course,
+            &mut walk_state,
             &mut guide,
             worker.budget,
             task.number,
             poll,
         )?;
-        ended(alloc, book, task, worker, course, outcome)
+        walk_answer(alloc, book, task, worker, walk_state, outcome)
     }
 }
 
 // Returns the walk at the query's start map.
-fn begin(alloc: Global, book: &Book, task: &Task) -> Result<WalkCourse, NoMemory>
+fn begin(alloc: Global, book: &Book, task: &Task) -> Result<WalkState, NoMemory>
     requires { IsQuery book.now task.now }
-    ensures book { IfOk result (λ course. course.book ≡ book.now) }
-    ensures start { IfOk result (λ course. course.start ≡ start_map book.now task.now.last task.now.set) }
-    ensures moves { IfOk result (λ course. course.moves ≡ []) }
+    ensures book { IfOk result (λ walk_state. walk_state.book ≡ book.now) }
+    ensures start { IfOk result (λ walk_state. walk_state.start ≡ start_map book.now task.now.last task.now.set) }
+    ensures moves { IfOk result (λ walk_state. walk_state.moves ≡ []) }
 {
     let entries = start_map(alloc, book, task)?;
-    Ok(WalkCourse::new(alloc, book, entries))
+    Ok(WalkState::new(alloc, book, entries))
 }
 
 // Turns the end of a walk into the result of the attempt.
-fn ended(
+fn walk_answer(
     alloc: Global,
     book: &Book,
     task: &Task,
     worker: Worker,
-    course: WalkCourse,
+    walk_state: WalkState,
     outcome: WalkEnd,
 ) -> Result<Attempt, NoMemory>
     requires query { IsQuery book.now task.now }
     requires walks { learns worker.kind ≡ false }
-    requires book { course.book ≡ book.now }
-    requires start { course.start ≡ start_map book.now task.now.last task.now.set }
-    ensures { (last : ℕ) → WalkEndIs course worker.budget task.now.number last outcome →
+    requires book { walk_state.book ≡ book.now }
+    requires start { walk_state.start ≡ start_map book.now task.now.last task.now.set }
+    ensures { (last : ℕ) → WalkEndIs walk_state worker.budget task.now.number last outcome →
         IfOk result (λ attempt. AttemptIs book.now task.now worker last attempt) }
 {
     match outcome {
         WalkEnd::Clean => {
-            let answer = fit(alloc, book, task, course)?;
+            let answer = fit(alloc, book, task, walk_state)?;
             return Ok(Attempt::Said(answer));
         }
-        WalkEnd::Dead(pair) => return Ok(Attempt::Said(refutation(&course, pair))),
-        WalkEnd::Spent => return Ok(Attempt::Said(receipt(course))),
+        WalkEnd::Dead(pair) => return Ok(Attempt::Said(refutation(&walk_state, pair))),
+        WalkEnd::Spent => return Ok(Attempt::Said(receipt(walk_state))),
         WalkEnd::Moved { now } => return Ok(Attempt::Moved { now }),
     }
 }

@@ -259,7 +259,7 @@ fn broken_before(alloc: Global) -> Result<(bool, Option<Place>), NoMemory> {
 }
 
 #[test]
-fn last_map_at_fault(rt: HostRuntime) -> Result<(), Fail> {
+fn invalid_last_map(rt: HostRuntime) -> Result<(), Fail> {
     let (asked, place) = broken_before(rt.alloc())?;
     assert!(rt; !asked);
     assert_eq!(rt; place, Some(Place::PairOf(apart(1, 2, 14))));

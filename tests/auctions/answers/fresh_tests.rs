@@ -160,7 +160,7 @@ fn wrong_row(
 }
 
 #[test]
-fn what_is_filed_where(rt: HostRuntime) -> Result<(), Fail> {
+fn clause_index_places(rt: HostRuntime) -> Result<(), Fail> {
     const ROWS: &[(&[&[i64]], &[&[i64]], Option<u64>)] = &[
         // A clause has a literal that is in no line. It is alone, or before a clause that is a subset of a line.
         (&[&[1, 9]], &[&[1, 2], &[2, 3]], None),

@@ -107,7 +107,7 @@ fn made(alloc: Global, given: Given) -> Result<Answer, NoMemory> {
 }
 
 // Checks whether this answer is accepted unchanged.
-fn goes_through(alloc: Global, budget: u32, given: Given) -> Result<bool, NoMemory> {
+fn is_accepted_unchanged(alloc: Global, budget: u32, given: Given) -> Result<bool, NoMemory> {
     let again = made(alloc, given)?;
     let answer = made(alloc, given)?;
     Ok(holds(checked(alloc, budget, answer)?, &again))
@@ -121,13 +121,13 @@ fn comes_back(alloc: Global, budget: u32, given: Given) -> Result<bool, NoMemory
 }
 
 #[test]
-fn valid_answers_go_through(rt: HostRuntime) -> Result<(), Fail> {
+fn valid_answers_are_accepted(rt: HostRuntime) -> Result<(), Fail> {
     const ROWS: &[(u32, Given)] = &[
         (2, Given::Proof(&[NOT_ONE, THE_END])),
         (1, Given::Lines(&[NOT_ONE])),
     ];
     for (budget, given) in ROWS {
-        assert!(rt; goes_through(rt.alloc(), *budget, *given)?);
+        assert!(rt; is_accepted_unchanged(rt.alloc(), *budget, *given)?);
     }
     Ok(())
 }

@@ -44,7 +44,7 @@ fn faults_of_receipts(rt: HostRuntime) -> Result<(), Fail> {
 }
 
 #[test]
-fn lines_that_say_nothing_new(rt: HostRuntime) -> Result<(), Fail> {
+fn redundant_lines(rt: HostRuntime) -> Result<(), Fail> {
     const CASES: &[(u32, &[Text], Option<Place>)] = &[
         // A clause is a subset of the line, or equals it.
         (1, &[PADDED], FIRST),

@@ -1,10 +1,10 @@
 //! Live auctions: the owners' answers decide in place of values.
 
 use crate::auctions::auctions::samples::{Crew, two_rounds};
-use crate::auctions::auctions::tests::{ALL_ON_AIR, BESIDE_SECOND, Came, Case, Want, ended};
+use crate::auctions::auctions::tests::{ALL_ON_AIR, BESIDE_SECOND, Answered, Case, Want, ended};
 use crate::samples::answers::Given;
 use crate::samples::books::three_stations;
-use crate::samples::owners::{AS_BID, SECOND_DECLINES, SaidLines, saying};
+use crate::samples::owners::{AS_BID, SECOND_DECLINES, SaidLines, owners_of_lines};
 use auction_core::auction::Auction;
 use auction_core::record::Ending;
 use pack_defs::book::Book;
@@ -21,19 +21,19 @@ fn played_live(
     book: &Book,
     owners: &Owners,
     cases: &[Case],
-) -> Result<Option<Came>, NoMemory> {
+) -> Result<Option<Answered>, NoMemory> {
     let live = sc.with_owners(alloc, owners)?;
     let auction = Auction::start_live(alloc, sc, book, owners, Order::ByFacility)?;
     ended(alloc, auction, live, cases)
 }
 
 // Plays the live auction of three stations without values.
-fn of_three(alloc: Global, owners: &Owners, cases: &[Case]) -> Result<Option<Came>, NoMemory> {
+fn of_three(alloc: Global, owners: &Owners, cases: &[Case]) -> Result<Option<Answered>, NoMemory> {
     let sc = two_rounds(alloc, ALL_ON_AIR, Crew::Learner)?;
     played_live(alloc, &sc, &three_stations(alloc)?, owners, cases)
 }
 
-const LIVE: &[(SaidLines, &[Case], Came)] = &[
+const LIVE: &[(SaidLines, &[Case], Answered)] = &[
     // Station 2 leaves in round 1 and station 1 in round 2. Station 3 never leaves, so it is frozen at 60 cents.
     (
         AS_BID,
@@ -55,9 +55,9 @@ const LIVE: &[(SaidLines, &[Case], Came)] = &[
 ];
 
 #[test]
-fn owners_say_who_stays(rt: HostRuntime) -> Result<(), Fail> {
+fn owner_lines_decide_who_stays(rt: HostRuntime) -> Result<(), Fail> {
     for (lines, cases, want) in LIVE {
-        let owners = saying(rt.alloc(), lines)?;
+        let owners = owners_of_lines(rt.alloc(), lines)?;
         let came = of_three(rt.alloc(), &owners, cases)?;
         assert_eq!(rt; came, Some(*want));
     }

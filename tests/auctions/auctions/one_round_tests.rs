@@ -1,7 +1,7 @@
 //! Auctions of one round: tests settled without a query, and the order of the queries.
 
 use crate::auctions::auctions::samples::one_round;
-use crate::auctions::auctions::tests::{Came, Case, End, Want, played};
+use crate::auctions::auctions::tests::{Answered, Case, End, Want, played};
 use crate::samples::answers::Given;
 use crate::samples::books::{apart, book, lone_station, on};
 use crate::samples::scenarios::bid;
@@ -26,19 +26,19 @@ enum Scene {
     ThirdOfFive,
 }
 
-fn dead_pair(alloc: Global, cases: &[Case]) -> Result<Option<Came>, NoMemory> {
+fn dead_pair(alloc: Global, cases: &[Case]) -> Result<Option<Answered>, NoMemory> {
     let domains = [on(alloc, 1, &[14])?, on(alloc, 2, &[14])?];
     let two = book(alloc, &[1, 2], &domains, &[apart(1, 2, 14)])?;
     let sc = one_round(alloc, vec![in alloc; bid(1, 1, None), bid(2, 1, None)]?)?;
     played(alloc, sc, &two, Order::ByFacility, cases)
 }
 
-fn no_channel(alloc: Global, value: u8, cases: &[Case]) -> Result<Option<Came>, NoMemory> {
+fn no_channel(alloc: Global, value: u8, cases: &[Case]) -> Result<Option<Answered>, NoMemory> {
     let sc = one_round(alloc, vec![in alloc; bid(1, 1, Some(u64::from(value)))]?)?;
     played(alloc, sc, &lone_station(alloc)?, Order::ByFacility, cases)
 }
 
-fn no_station(alloc: Global, cases: &[Case]) -> Result<Option<Came>, NoMemory> {
+fn no_station(alloc: Global, cases: &[Case]) -> Result<Option<Answered>, NoMemory> {
     let sc = one_round(alloc, Vec::new(alloc))?;
     let none = book(alloc, &[], &[], &[])?;
     played(alloc, sc, &none, Order::ByFacility, cases)
@@ -57,13 +57,13 @@ fn five_bids(alloc: Global) -> Result<Scenario, NoMemory> {
     one_round(alloc, bids)
 }
 
-fn third_of_five(alloc: Global, cases: &[Case]) -> Result<Option<Came>, NoMemory> {
+fn third_of_five(alloc: Global, cases: &[Case]) -> Result<Option<Answered>, NoMemory> {
     let sc = five_bids(alloc)?;
     let one = book(alloc, &[1, 2, 3, 4, 5], &[on(alloc, 3, &[14])?], &[])?;
     played(alloc, sc, &one, Order::ByFacility, cases)
 }
 
-fn in_one_round(alloc: Global, scene: Scene, cases: &[Case]) -> Result<Option<Came>, NoMemory> {
+fn in_one_round(alloc: Global, scene: Scene, cases: &[Case]) -> Result<Option<Answered>, NoMemory> {
     match scene {
         Scene::DeadPair => dead_pair(alloc, cases),
         Scene::NoChannel(value) => no_channel(alloc, value, cases),
@@ -133,7 +133,7 @@ fn by_volumes(
     alloc: Global,
     volumes: (u8, u8, u8),
     cases: &[Case],
-) -> Result<Option<Came>, NoMemory> {
+) -> Result<Option<Answered>, NoMemory> {
     let sc = of_volumes(alloc, volumes)?;
     played(alloc, sc, &three_apart(alloc)?, Order::ByVolume, cases)
 }
@@ -177,7 +177,7 @@ const IN_TURN: &[((u8, u8, u8), &[Case])] = &[
 
 #[test]
 fn by_volume(rt: HostRuntime) -> Result<(), Fail> {
-    const WANT: Came = ((Ending::Done, 4, 3, 0), 0, false, Some(14));
+    const WANT: Answered = ((Ending::Done, 4, 3, 0), 0, false, Some(14));
     for (volumes, cases) in IN_TURN {
         assert_eq!(rt; by_volumes(rt.alloc(), *volumes, cases)?, Some(WANT));
     }

@@ -48,7 +48,7 @@ fn reply(want: Want) -> Reply {
 pub(crate) type Case = (u32, u64, Given, Want);
 
 // Posts these cases in order. Returns whether each gets its expected reply.
-pub(crate) fn are_told(
+pub(crate) fn are_replies(
     alloc: Global,
     auction: &mut Auction,
     cases: &[Case],
@@ -66,9 +66,9 @@ pub(crate) type End = (Ending, u64, usize, u64);
 
 // The end of an auction and more of its record: how many steps are `Shown::Same`, whether the last one is undecided, and station 1's
 // channel.
-pub(crate) type Came = (End, usize, bool, Option<u8>);
+pub(crate) type Answered = (End, usize, bool, Option<u8>);
 
-pub(crate) fn came(left: &Record, number: u64) -> Came {
+pub(crate) fn came(left: &Record, number: u64) -> Answered {
     let steps = left.steps.as_slice();
     let end = (left.ending, number, steps.len(), left.total);
     (end, same(steps), is_left_open(steps), left.map.get(1))
@@ -102,9 +102,9 @@ pub(crate) fn ended(
     auction: Auction,
     sc: Scenario,
     cases: &[Case],
-) -> Result<Option<Came>, NoMemory> {
+) -> Result<Option<Answered>, NoMemory> {
     let mut auction = auction;
-    if !are_told(alloc, &mut auction, cases)? || !auction.ended() {
+    if !are_replies(alloc, &mut auction, cases)? || !auction.ended() {
         return Ok(None);
     }
     let number = auction.number();
@@ -119,7 +119,7 @@ pub(crate) fn played(
     book: &Book,
     order: Order,
     cases: &[Case],
-) -> Result<Option<Came>, NoMemory> {
+) -> Result<Option<Answered>, NoMemory> {
     let auction = Auction::start(alloc, &sc, book, order)?;
     ended(alloc, auction, sc, cases)
 }
@@ -130,7 +130,7 @@ fn in_two_rounds(
     values: Values,
     workers: Crew,
     cases: &[Case],
-) -> Result<Option<Came>, NoMemory> {
+) -> Result<Option<Answered>, NoMemory> {
     let sc = two_rounds(alloc, values, workers)?;
     played(alloc, sc, &three_stations(alloc)?, Order::ByFacility, cases)
 }
@@ -147,7 +147,7 @@ const ALL_ASKED: Values = (Some(50), Some(70), Some(10));
 
 pub(crate) const ALL_ON_AIR: Values = (None, None, None);
 
-const TWO_ROUNDS: &[(Values, Crew, &[Case], Came)] = &[
+const TWO_ROUNDS: &[(Values, Crew, &[Case], Answered)] = &[
     // An answer to an old query. The queries are stations 1, 2 and 3 in round 1, then 1 and 3 in round 2, where 3 is frozen at 60 cents.
     (
         ALL_ASKED,
@@ -242,7 +242,7 @@ pub(crate) const BESIDE_SECOND: &[Case] = &[
 ];
 
 #[test]
-fn postings_are_told_what_they_do(rt: HostRuntime) -> Result<(), Fail> {
+fn postings_get_their_replies(rt: HostRuntime) -> Result<(), Fail> {
     for (values, workers, cases, want) in TWO_ROUNDS {
         let came = in_two_rounds(rt.alloc(), *values, *workers, cases)?;
         assert_eq!(rt; came, Some(*want));
@@ -251,12 +251,12 @@ fn postings_are_told_what_they_do(rt: HostRuntime) -> Result<(), Fail> {
 }
 
 // Whether a receipt of worker 0, 1 and 7 is noted, whether the auction has ended, and how many postings were made.
-type Standing = ((bool, bool, bool), bool, u64);
+type StationStatus = ((bool, bool, bool), bool, u64);
 
 // Returns the state of an auction after these postings, or `None` if a reply is not the expected one.
-fn stands(alloc: Global, auction: Auction, cases: &[Case]) -> Result<Option<Standing>, NoMemory> {
+fn stands(alloc: Global, auction: Auction, cases: &[Case]) -> Result<Option<StationStatus>, NoMemory> {
     let mut auction = auction;
-    if !are_told(alloc, &mut auction, cases)? {
+    if !are_replies(alloc, &mut auction, cases)? {
         return Ok(None);
     }
     let noted = (auction.noted(0), auction.noted(1), auction.noted(7));
@@ -264,7 +264,7 @@ fn stands(alloc: Global, auction: Auction, cases: &[Case]) -> Result<Option<Stan
 }
 
 // Returns the state of an auction whose stations all start on air. One learner has a budget of 1, the other 1000.
-fn standing(alloc: Global, cases: &[Case]) -> Result<Option<Standing>, NoMemory> {
+fn standing(alloc: Global, cases: &[Case]) -> Result<Option<StationStatus>, NoMemory> {
     let sc = two_rounds(alloc, ALL_ON_AIR, Crew::ShortAndLong)?;
     let book = three_stations(alloc)?;
     let auction = Auction::start(alloc, &sc, &book, Order::ByFacility)?;
@@ -274,7 +274,7 @@ fn standing(alloc: Global, cases: &[Case]) -> Result<Option<Standing>, NoMemory>
 // A receipt is noted for its own worker only, and dropped once another worker's answer settles the query.
 #[test]
 fn a_noted_receipt(rt: HostRuntime) -> Result<(), Fail> {
-    const ROWS: &[(&[Case], Standing)] = &[
+    const ROWS: &[(&[Case], StationStatus)] = &[
         (&[], ((false, false, false), false, 0)),
         (
             &[(0, 1, Given::Spent, Want::Noted)],

@@ -3,7 +3,7 @@
 use crate::scenes::change::Change;
 use crate::scenes::named::{named_folder, named_text};
 use crate::scenes::outside::run_in;
-use crate::scenes::told::{are_among, file_text};
+use crate::scenes::run_outputs::{are_among, file_text};
 use outside_io::memory_folder::MemoryFolder;
 use solver_gate::gate::EmptyGate;
 use std::alloc::{AllocError as NoMemory, Global};
@@ -43,7 +43,7 @@ fn run<W: Threads + Wait + Sync>(
 }
 
 /// Checks whether the run of this command line over this list leaves these facts.
-pub fn leaves<W: Threads + Wait + Sync>(
+pub fn outputs_match<W: Threads + Wait + Sync>(
     rt: &W,
     alloc: Global,
     line: &str,
@@ -62,7 +62,7 @@ pub fn first_untrue<'a, W: Threads + Wait + Sync>(
     table: &[(&str, Change<'_>, &'a str)],
 ) -> Result<Option<&'a str>, NoMemory> {
     for &(list, change, facts) in table {
-        if !leaves(rt, alloc, BATCH, list, change, facts)? {
+        if !outputs_match(rt, alloc, BATCH, list, change, facts)? {
             return Ok(Some(facts));
         }
     }

@@ -1,6 +1,6 @@
 //! What a batch prints and stores.
 
-use super::scene::{BATCH, first_untrue, leaves};
+use super::scene::{BATCH, first_untrue, outputs_match};
 use crate::scenes::change::Change;
 use std::alloc::{AllocError as NoMemory, Global};
 use std::test::Fail;
@@ -158,7 +158,7 @@ fn one_scenario_twenty_times(rt: HostRuntime) -> Result<(), Fail> {
     let facts = format!(in alloc;
         "status 0; said: {lines}; 1.csv: facility,outcome,round,price\n1,exit,2,0\n2,exit,1,0\n3,frozen,2,60\n; 20.csv: facility,outcome,round,price\n1,exit,2,0\n2,exit,1,0\n3,frozen,2,60\n"
     )?;
-    let done = leaves(&rt, alloc, BATCH, &list, Change::Nothing, &facts)?;
+    let done = outputs_match(&rt, alloc, BATCH, &list, Change::Nothing, &facts)?;
     assert!(rt; done);
     Ok(())
 }
@@ -169,7 +169,7 @@ fn words_of_a_batch(rt: HostRuntime) -> Result<(), Fail> {
     let list = "plain,1.csv\n";
     let few = "repack batch d.csv r.csv";
     assert!(rt;
-        leaves(
+        outputs_match(
             &rt,
             alloc,
             few,
@@ -180,7 +180,7 @@ fn words_of_a_batch(rt: HostRuntime) -> Result<(), Fail> {
     );
     let same = "repack batch d.csv r.csv r.csv";
     assert!(rt;
-        leaves(
+        outputs_match(
             &rt,
             alloc,
             same,

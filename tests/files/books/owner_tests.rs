@@ -43,7 +43,7 @@ fn are_said(owners: &mut Owners) -> Result<bool, NoMemory> {
 // Checks the answer for each round and station.
 fn answers(owners: &Owners) -> bool {
     for (round, station, is_said, stays) in ASKED {
-        if owners.is_said(*round, *station) != *is_said
+        if owners.has_line_for(*round, *station) != *is_said
             || owners.stays(*round, *station) != *stays
         {
             return false;

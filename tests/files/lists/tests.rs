@@ -30,7 +30,7 @@ fn told(alloc: Global, bytes: &[u8]) -> Result<String, AllocError> {
 }
 
 // Returns the expected text of the first list with another outcome.
-fn first_told<'a>(
+fn first_misread<'a>(
     alloc: Global,
     cases: &[(&[u8], &'a str)],
 ) -> Result<Option<&'a str>, AllocError> {
@@ -66,7 +66,7 @@ fn read_and_refused(rt: HostRuntime) -> Result<(), Fail> {
         (b"a,b\na,\xFF\n", "2"),
         (b"a,b\nc,d,e\n\xFF\n", "2"),
     ];
-    assert_eq!(rt; first_told(rt.alloc(), CASES)?, None);
+    assert_eq!(rt; first_misread(rt.alloc(), CASES)?, None);
     Ok(())
 }
 

@@ -1,6 +1,6 @@
 //! Two passes post to one board, and the second is used after the first.
 
-use crate::races::boards::tests::{auction, told};
+use crate::races::boards::tests::{auction, reply_of};
 use crate::samples::answers::{FOUR_FITS, Given};
 use answer_board::board::{Board, Pass};
 use auction_core::auction::Auction;
@@ -12,18 +12,18 @@ use std::thread;
 use std::thread::Threads;
 
 // Answers query 1 through the first pass. Returns the reply and the query that the pass then reads.
-fn told_first<R: Wait>(
+fn first_pass_reply<R: Wait>(
     rt: &R,
     alloc: Global,
     board: &Board,
     pass: &mut Pass,
 ) -> Result<(Reply, u64), NoMemory> {
-    let reply = told(rt, alloc, board, pass, 1, Given::Fit(1, 14))?;
+    let reply = reply_of(rt, alloc, board, pass, 1, Given::Fit(1, 14))?;
     Ok((reply, board.current(rt, pass)))
 }
 
 // Answers query 1 with another fit through the second pass, in a new thread. Returns the reply.
-fn told_in_a_thread<W: Threads + Wait + Sync>(
+fn later_thread_reply<W: Threads + Wait + Sync>(
     rt: &W,
     alloc: Global,
     board: &Board,
@@ -31,33 +31,33 @@ fn told_in_a_thread<W: Threads + Wait + Sync>(
 ) -> Result<Reply, NoMemory> {
     let (reply, ()) = thread::join(
         rt,
-        || told(rt, alloc, board, pass, 1, Given::Fit(1, 15)),
+        || reply_of(rt, alloc, board, pass, 1, Given::Fit(1, 15)),
         || {},
     );
     reply
 }
 
 // Posts through both passes; the second thread starts after the first reply.
-fn told_in_turn<W: Threads + Wait + Sync>(
+fn replies_in_sequence<W: Threads + Wait + Sync>(
     rt: &W,
     alloc: Global,
     board: &Board,
     passes: &mut [Pass],
 ) -> Result<(Reply, u64, Reply), NoMemory> {
-    let (reply, now) = told_first(rt, alloc, board, &mut passes[0])?;
-    let later = told_in_a_thread(rt, alloc, board, &mut passes[1])?;
+    let (reply, now) = first_pass_reply(rt, alloc, board, &mut passes[0])?;
+    let later = later_thread_reply(rt, alloc, board, &mut passes[1])?;
     Ok((reply, now, later))
 }
 
 // A thread that starts after query 1 is settled gets `WrongQuery` for a valid fit of query 1. Both postings are in the history.
 #[test]
-fn an_answer_from_a_thread_that_starts_later_is_turned_away(rt: HostRuntime) -> Result<(), Fail> {
+fn later_answer_gets_wrong_query(rt: HostRuntime) -> Result<(), Fail> {
     let alloc = rt.alloc();
     let auction = auction(alloc, 1000)?;
     let Ok((board, mut passes)) = Board::raise(alloc, auction, 2) else {
         return Err(NoMemory)?;
     };
-    let replies = told_in_turn(&rt, alloc, &board, &mut passes);
+    let replies = replies_in_sequence(&rt, alloc, &board, &mut passes);
     let auction = board.close(passes);
     let advanced = Reply::Advanced { next: Some(2) };
     let too_late = Reply::WrongQuery { now: 2 };
@@ -76,9 +76,9 @@ fn spends_at_query_5<R: Wait>(
 ) -> Result<Reply, NoMemory> {
     for number in 1..5 {
         let fit = FOUR_FITS[number as usize - 1];
-        told(rt, alloc, board, &mut passes[0], number, fit)?;
+        reply_of(rt, alloc, board, &mut passes[0], number, fit)?;
     }
-    told(rt, alloc, board, &mut passes[1], 5, Given::Spent)
+    reply_of(rt, alloc, board, &mut passes[1], 5, Given::Spent)
 }
 
 // Returns the reply to the second pass, and the auction after the board is closed.

@@ -118,7 +118,7 @@ pub(crate) fn auction(alloc: Global, budget: u32) -> Result<Auction, NoMemory> {
 }
 
 // Posts an answer and returns the reply.
-pub(crate) fn told<R: Wait>(
+pub(crate) fn reply_of<R: Wait>(
     rt: &R,
     alloc: Global,
     board: &Board,
@@ -134,16 +134,16 @@ pub(crate) fn told<R: Wait>(
 }
 
 // Checks whether a posting gets its expected reply and leaves the expected query current.
-fn is_told<R: Wait>(rt: &R, alloc: Global, board: &Board, pass: &mut Pass, case: Case) -> bool {
+fn is_reply<R: Wait>(rt: &R, alloc: Global, board: &Board, pass: &mut Pass, case: Case) -> bool {
     let (number, given, reply, after) = case;
-    let Ok(told) = told(rt, alloc, board, pass, number, given) else {
+    let Ok(got) = reply_of(rt, alloc, board, pass, number, given) else {
         return false;
     };
-    told == reply && board.current(rt, pass) == after
+    got == reply && board.current(rt, pass) == after
 }
 
 // Checks whether each posting, through the pass with its index, gets its expected reply.
-fn are_told<R: Wait>(
+fn are_replies<R: Wait>(
     rt: &R,
     alloc: Global,
     board: &Board,
@@ -155,15 +155,15 @@ fn are_told<R: Wait>(
         if *by >= passes.len() {
             return false;
         }
-        let told = is_told(rt, alloc, board, &mut passes[*by], *case);
-        all = all & told;
+        let expected = is_reply(rt, alloc, board, &mut passes[*by], *case);
+        all = all & expected;
     }
     all
 }
 
 // Checks whether each posting gets its expected reply, and whether the history has all of them. The board has one pass more than workers,
 // and each worker has this budget.
-fn are_told_on<R: Wait>(
+fn are_replies_on<R: Wait>(
     rt: &R,
     alloc: Global,
     budget: u32,
@@ -173,31 +173,31 @@ fn are_told_on<R: Wait>(
     let Ok((board, mut passes)) = Board::raise(alloc, auction, 3) else {
         return Err(NoMemory);
     };
-    let told = are_told(rt, alloc, &board, &mut passes, cases);
+    let expected = are_replies(rt, alloc, &board, &mut passes, cases);
     let auction = board.close(passes);
-    Ok(told && auction.posted() == cases.len() as u64)
+    Ok(expected && auction.posted() == cases.len() as u64)
 }
 
 // Each posting gets its reply: stranger, wrong query, rejected, advanced, noted, already spent or ended.
 #[test]
 fn each_reply(rt: HostRuntime) -> Result<(), Fail> {
     let alloc = rt.alloc();
-    assert!(rt; are_told_on(&rt, alloc, 1, POSTINGS)?);
-    assert!(rt; are_told_on(&rt, alloc, 1, TO_THE_END)?);
+    assert!(rt; are_replies_on(&rt, alloc, 1, POSTINGS)?);
+    assert!(rt; are_replies_on(&rt, alloc, 1, TO_THE_END)?);
     Ok(())
 }
 
 // An answer for an older query gets `WrongQuery` from either worker, and the current query can still be settled.
 #[test]
-fn an_answer_for_an_older_query_is_turned_away(rt: HostRuntime) -> Result<(), Fail> {
-    assert!(rt; are_told_on(&rt, rt.alloc(), 1000, OLDER_QUERY)?);
+fn older_answer_gets_wrong_query(rt: HostRuntime) -> Result<(), Fail> {
+    assert!(rt; are_replies_on(&rt, rt.alloc(), 1000, OLDER_QUERY)?);
     Ok(())
 }
 
 // Every posting after the end gets `Ended`, for any answer and any pass. `current` then returns 6, the last query's number plus one.
 #[test]
 fn every_posting_after_the_end_gets_ended(rt: HostRuntime) -> Result<(), Fail> {
-    assert!(rt; are_told_on(&rt, rt.alloc(), 1000, AFTER_THE_END)?);
+    assert!(rt; are_replies_on(&rt, rt.alloc(), 1000, AFTER_THE_END)?);
     Ok(())
 }
 
@@ -256,7 +256,7 @@ fn post_own<R: Wait>(
             continue;
         }
         let (number, given, _, _) = *case;
-        let Ok(reply) = told(rt, alloc, board, pass, number, given) else {
+        let Ok(reply) = reply_of(rt, alloc, board, pass, number, given) else {
             return;
         };
         if !is_possible(*case, settled, reply) {

@@ -2,7 +2,7 @@
 
 use crate::races::races::samples::{after_wave, by_two_workers, settling};
 use crate::samples::books::three_stations;
-use crate::samples::gates::comes;
+use crate::samples::gates::reaches_in_time;
 use crate::samples::workers::learner;
 use cert_types::poll::{Attempt, Poll};
 use cert_types::task::Task;
@@ -36,10 +36,10 @@ impl Actor<'_> {
     fn is_met(&self, number: u64) -> bool {
         if self.stays {
             self.words.inside.store(1, Ordering::SeqCst);
-            return comes(&self.words.tried, 5);
+            return reaches_in_time(&self.words.tried, 5);
         }
         self.words.tried.store(number, Ordering::SeqCst);
-        comes(&self.words.inside, 1)
+        reaches_in_time(&self.words.inside, 1)
     }
 }
 

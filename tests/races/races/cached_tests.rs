@@ -13,7 +13,7 @@ use pack_defs::channel_map::ChannelMap;
 use pack_defs::items::Items;
 use pack_defs::worker::Worker;
 use race_wave::cached::Cached;
-use race_wave::standing::SerialPoll;
+use race_wave::serial_poll::SerialPoll;
 use solver_gate::racer::{Racer, RacerKind};
 use std::alloc::{AllocError as NoMemory, Global};
 use std::sync::atomic::{AtomicU64, Ordering};
@@ -149,7 +149,7 @@ fn attempts<W: Wait>(
 // The cache answers an equal task, and one with fewer stations if the set fits; a larger set is tried. A kept map that is no fit is skipped
 // for an older map or a valid refutation. Without either, the solver tries.
 #[test]
-fn what_was_said_is_not_tried_again(rt: HostRuntime) -> Result<(), Fail> {
+fn cached_answers_are_not_tried(rt: HostRuntime) -> Result<(), Fail> {
     let rows: &[(&[u32], &[Entry], Want, u64)] = &[
         (&[1, 2], &[], Want::Fit, 1),
         (&[1, 2], &[], Want::Fit, 1),
@@ -177,7 +177,7 @@ fn what_was_said_is_not_tried_again(rt: HostRuntime) -> Result<(), Fail> {
 // A quick fit is neither tried nor kept. The answer is a free channel of the tested station, not the cached map that would move the other
 // station too. The same set without quick fits is not in the cache: the solver tries it, and only then it is kept.
 #[test]
-fn what_a_look_finds_is_neither_tried_nor_kept(rt: HostRuntime) -> Result<(), Fail> {
+fn quick_fits_are_neither_tried_nor_cached(rt: HostRuntime) -> Result<(), Fail> {
     let kept: &[(&[u32], &[Entry])] = &[(&[1, 2], &[(1, 15), (2, 14)])];
     let rows: &[(&[u32], &[Entry], Want, u64)] = &[
         (&[1, 2], &[(1, 14)], Want::Changes(1), 0),

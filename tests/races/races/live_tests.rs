@@ -3,7 +3,7 @@
 use crate::races::races::samples::all_on_air;
 use crate::races::races::tests::{By, Test, are_of};
 use crate::samples::books::three_stations;
-use crate::samples::owners::{ALL_STAY, AS_BID, FIRST_LEAVES, FIRST_STAYS, SaidLines, saying};
+use crate::samples::owners::{ALL_STAY, AS_BID, FIRST_LEAVES, FIRST_STAYS, SaidLines, owners_of_lines};
 use crate::samples::scenarios::three_bids_by_one;
 use crate::samples::workers::learner;
 use auction_core::record::{Ending, Record};
@@ -55,7 +55,7 @@ fn ends<W: Threads + Wait + Sync>(
     end: End,
 ) -> Result<bool, NoMemory> {
     let book = three_stations(alloc)?;
-    let owners = saying(alloc, lines)?;
+    let owners = owners_of_lines(alloc, lines)?;
     let record = run_live(rt, alloc, sc, &book, &owners, &EmptyGate)?;
     Ok(has_owners(&record, &owners) && is_end(&record, end))
 }
@@ -197,7 +197,7 @@ const LIVE: &[(SaidLines, End)] = &[
 
 // The owners' answers decide, in a scenario without values and in one with values of 50, 70 and 10 cents.
 #[test]
-fn owners_say_who_stays(rt: HostRuntime) -> Result<(), Fail> {
+fn owner_lines_decide_who_stays(rt: HostRuntime) -> Result<(), Fail> {
     let alloc = rt.alloc();
     let without = all_on_air(alloc, vec![in alloc; learner(1000)]?)?;
     assert_eq!(rt; ends_otherwise(&rt, alloc, &without, LIVE)?, None);

@@ -2,7 +2,7 @@
 
 use crate::races::races::samples::{after_wave, other_query};
 use crate::samples::books::three_stations;
-use crate::samples::gates::comes;
+use crate::samples::gates::reaches_in_time;
 use crate::samples::scenarios::three_bids;
 use crate::samples::workers::learner;
 use auction_core::auction::Auction;
@@ -65,7 +65,7 @@ impl Racer for Actor<'_> {
                 None => Err(NoMemory),
             },
             Part::Solves => {
-                if !comes(self.starved, 1) {
+                if !reaches_in_time(self.starved, 1) {
                     return Err(NoMemory);
                 }
                 self.solver.attempt(alloc, book, task, poll)

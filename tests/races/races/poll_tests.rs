@@ -2,7 +2,7 @@
 
 use crate::races::races::samples::{after_wave, by_two_workers, other_query, settling};
 use crate::samples::books::three_stations;
-use crate::samples::gates::comes;
+use crate::samples::gates::reaches_in_time;
 use crate::samples::workers::learner;
 use cert_types::poll::{Attempt, Poll};
 use cert_types::task::Task;
@@ -63,7 +63,7 @@ impl Racer for Actor<'_> {
         if task.number % 2 != self.settles {
             return self.asks(task.number, poll);
         }
-        if !comes(&self.words.asked, task.number) {
+        if !reaches_in_time(&self.words.asked, task.number) {
             return Err(NoMemory);
         }
         settling(alloc, task.number)

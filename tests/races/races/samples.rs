@@ -10,8 +10,8 @@ use pack_defs::book::Book;
 use pack_defs::order::Order;
 use pack_defs::scenario::Scenario;
 use pack_defs::worker::Worker;
-use race_wave::muster::mustered;
-use race_wave::parting::parted;
+use race_wave::zip_runners::zip_runners;
+use race_wave::unzip_runners::unzip_runners;
 use race_wave::wave::wave;
 use solver_gate::gate::EmptyGate;
 use solver_gate::racer::Racer;
@@ -73,12 +73,12 @@ pub(crate) fn after_wave<R: Racer + Send + Drop, W: Threads + Wait + Sync>(
     let Ok((board, passes)) = Board::raise(alloc, auction, count as u32) else {
         return Err(NoMemory);
     };
-    let mut runners = mustered(&board, passes, racers, runners);
+    let mut runners = zip_runners(&board, passes, racers, runners);
     let done = wave(rt, alloc, &board, book, &mut runners, &EmptyGate);
     for runner in &runners {
         refused.push_reserved(runner.refused);
     }
-    let (passes, _) = parted(runners, passes_left, racers_left);
+    let (passes, _) = unzip_runners(runners, passes_left, racers_left);
     let auction = board.close(passes);
     Ok(Left {
         auction,

@@ -3,7 +3,7 @@
 use crate::scenes::change::Change;
 use crate::scenes::named::{named_folder, named_text};
 use crate::scenes::outside::run_in;
-use crate::scenes::told::are_among;
+use crate::scenes::run_outputs::are_among;
 use outside_io::memory_folder::MemoryFolder;
 use solver_gate::gate::{Gate, Spot};
 use std::alloc::{AllocError as NoMemory, Global};
@@ -73,7 +73,7 @@ fn run<W: Threads + Wait + Sync>(
 }
 
 /// Checks whether a run of this command line with this beginning has these facts. The stored transcript should begin with `kept`.
-pub fn leaves<W: Threads + Wait + Sync>(
+pub fn outputs_match<W: Threads + Wait + Sync>(
     rt: &W,
     alloc: Global,
     line: &str,
@@ -103,7 +103,7 @@ pub fn first_untrue<'a, W: Threads + Wait + Sync>(
 ) -> Result<Option<&'a str>, NoMemory> {
     let line = line_of(alloc, scenario)?;
     for &(prefix, kept, change, facts) in table {
-        if !leaves(rt, alloc, &line, prefix, kept, change, facts)? {
+        if !outputs_match(rt, alloc, &line, prefix, kept, change, facts)? {
             return Ok(Some(facts));
         }
     }

@@ -1,6 +1,6 @@
 //! Results of resumed auctions.
 
-use super::scene::{ResumeRow, first_untrue, leaves};
+use super::scene::{ResumeRow, first_untrue, outputs_match};
 use crate::scenes::change::Change;
 use crate::scenes::stations::TRANSCRIPT;
 use std::alloc::{AllocError as NoMemory, Global};
@@ -335,7 +335,7 @@ fn first_otherwise<W: Threads + Wait + Sync>(
         let (Some(prefix), Some(kept)) = (text.get(..end), text.get(..kept_of(end))) else {
             return Ok(Some(end));
         };
-        if !leaves(rt, alloc, line, prefix, kept, Change::Nothing, SETTLED)? {
+        if !outputs_match(rt, alloc, line, prefix, kept, Change::Nothing, SETTLED)? {
             return Ok(Some(end));
         }
     }
@@ -353,9 +353,9 @@ fn words_of_a_resumption(rt: HostRuntime) -> Result<(), Fail> {
     let alloc = rt.alloc();
     let few = "repack resume d.csv r.csv plain p.txt out.csv chan.csv";
     let none = "status 2; no out.csv; no record; nothing asked";
-    assert!(rt; leaves(&rt, alloc, few, "", "", Change::Nothing, none)?);
+    assert!(rt; outputs_match(&rt, alloc, few, "", "", Change::Nothing, none)?);
     let same = "repack resume d.csv r.csv plain p.txt out.csv chan.csv p.txt";
     let twice = "status 5; said: p.txt: given twice\n; no out.csv; inputs kept; no record";
-    assert!(rt; leaves(&rt, alloc, same, "", "", Change::Nothing, twice)?);
+    assert!(rt; outputs_match(&rt, alloc, same, "", "", Change::Nothing, twice)?);
     Ok(())
 }

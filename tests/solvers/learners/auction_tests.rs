@@ -2,7 +2,7 @@
 
 use crate::solvers::learners::samples::{ALWAYS, Said, attempted, by_chance, learner, packing};
 use crate::solvers::samples::task_of;
-use cdcl_prove::cdcl::{Cdcl, Searched};
+use cdcl_prove::cdcl::{Cdcl, SearchCounts};
 use cert_types::query::is_query;
 use cert_types::task::Task;
 use pack_defs::book::Book;
@@ -82,7 +82,7 @@ struct Turn {
 
 // Runs one solver over `auctions` interleaved auctions and returns its search counters. The solver hears all queries or only some.
 // Returns `None` if the solver once disagrees with the plain search.
-fn searched(alloc: Global, first: u64, auctions: u64, hears_all: bool) -> Option<Searched> {
+fn searched(alloc: Global, first: u64, auctions: u64, hears_all: bool) -> Option<SearchCounts> {
     let worker = learner(10_000, first);
     let mut solver = Cdcl::new(alloc, &worker).ok()?;
     let mut all = Vec::new(alloc);
@@ -102,7 +102,7 @@ fn searched(alloc: Global, first: u64, auctions: u64, hears_all: bool) -> Option
             }
         }
     }
-    Some(solver.searched())
+    Some(solver.search_counts())
 }
 
 #[test]

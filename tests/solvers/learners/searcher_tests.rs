@@ -1,9 +1,9 @@
 //! A searcher that runs out of memory is empty and can be used again. For a long log it searches for a shorter one.
 
 use crate::solvers::learners::samples::packing;
-use kept_search::searcher::{Progress, Searcher};
-use kept_search::suggestion::LogLength;
-use kept_search::suggestion::Suggestion;
+use incremental_search::searcher::{Progress, Searcher};
+use incremental_search::suggestion::LogLength;
+use incremental_search::suggestion::Suggestion;
 use pack_defs::book::Book;
 use pack_defs::channel_map::ChannelMap;
 use std::alloc::{AllocError as NoMemory, Global};
@@ -27,7 +27,7 @@ impl Told {
     }
 }
 
-fn told_of(suggestion: &Suggestion) -> Told {
+fn suggestion_kind(suggestion: &Suggestion) -> Told {
     match suggestion {
         Suggestion::Fit(_) => Told::Fit,
         Suggestion::Unfit(disproof) => Told::Unfit(disproof.log.lines.len()),
@@ -45,9 +45,9 @@ fn asked(
 ) -> Result<Told, NoMemory> {
     searcher.begin(alloc, book, set, none, None, effort)?;
     for _ in 0..1000 {
-        match searcher.go_on(alloc, set, none, 16)? {
+        match searcher.continue_search(alloc, set, none, 16)? {
             Progress::Open => {}
-            Progress::Ended(suggestion) => return Ok(told_of(&suggestion)),
+            Progress::Ended(suggestion) => return Ok(suggestion_kind(&suggestion)),
             Progress::Spent | Progress::Lost => break,
         }
     }
@@ -56,7 +56,7 @@ fn asked(
 
 // Checks whether a searcher has no current query.
 fn is_empty(alloc: Global, searcher: &mut Searcher, none: &ChannelMap) -> bool {
-    matches!(searcher.go_on(alloc, &[], none, 1), Ok(Progress::Lost))
+    matches!(searcher.continue_search(alloc, &[], none, 1), Ok(Progress::Lost))
 }
 
 // Returns a searcher's answer for these stations. If memory runs out and the searcher is empty, asks a second time.

@@ -3,7 +3,7 @@
 use crate::solvers::learners::samples::{ALWAYS, Said, attempted, by_chance, learner, packing};
 use crate::solvers::samples::{book, task, task_of};
 use cdcl_prove::cdcl::Cdcl;
-use first_looks::looks::Looked;
+use quick_fits::quick_fits::QuickFitCounts;
 use pack_defs::book::Book;
 use pack_defs::worker::{Kind, Worker};
 use plain_pack::search::fits;
@@ -63,7 +63,7 @@ const CHAIN: &str = "DOMAIN,1,14\nDOMAIN,2,14,15\nDOMAIN,3,15,16\n";
 const LINKS: &str = "CO,14,14,1,2\nCO,15,15,2,3\n";
 
 // Returns the quick-fit counters of one solver after each of these queries in turn.
-fn looked_in_turn(alloc: Global) -> Option<[Looked; 5]> {
+fn quick_fit_counts_after(alloc: Global) -> Option<[QuickFitCounts; 5]> {
     let book = book(alloc, CHAIN, LINKS)?;
     let worker = learner(1000, 0);
     let mut solver = Cdcl::new(alloc, &worker).ok()?;
@@ -74,19 +74,19 @@ fn looked_in_turn(alloc: Global) -> Option<[Looked; 5]> {
         task_of(alloc, Some(1), &[1, 2], &[(2, 14)]).ok()?,
         task_of(alloc, Some(1), &[1, 2], &[(2, 14)]).ok()?,
     ];
-    let mut all = [solver.looked(); 5];
+    let mut all = [solver.quick_fit_counts(); 5];
     for (i, task) in tasks.iter().enumerate() {
         if attempted(alloc, &mut solver, &worker, &book, task, ALWAYS) != Said::Fit {
             return None;
         }
-        all[i] = solver.looked();
+        all[i] = solver.quick_fit_counts();
     }
     Some(all)
 }
 
 #[test]
 fn last_fit_answers_the_next_query_of_its_station(rt: HostRuntime) -> Result<(), Fail> {
-    let looked = looked_in_turn(rt.alloc()).ok_or("not a fit")?;
+    let looked = quick_fit_counts_after(rt.alloc()).ok_or("not a fit")?;
     // In order: the search, the last fit, a free channel, moving station 2, and the last fit again. The fourth query cannot use the
     // last fit, which also moves station 3, and the query does not contain station 3.
     let want = [(0, 0, 0), (1, 0, 0), (1, 1, 0), (1, 1, 1), (2, 1, 1)];

@@ -199,7 +199,7 @@ const TOLD: &[Told] = &[
 ];
 
 // Returns the name of the first trail with an unexpected result, and the index of the step.
-fn first_told<'a>(alloc: Global, told: &[Told<'a>]) -> Result<Option<(&'a str, usize)>, NoMemory> {
+fn first_misread<'a>(alloc: Global, told: &[Told<'a>]) -> Result<Option<(&'a str, usize)>, NoMemory> {
     for (name, vars, clauses, steps) in told {
         if let Some(i) = first_step(alloc, *vars, clauses, steps)? {
             return Ok(Some((name, i)));
@@ -210,7 +210,7 @@ fn first_told<'a>(alloc: Global, told: &[Told<'a>]) -> Result<Option<(&'a str, u
 
 #[test]
 fn steps_on_trails(rt: HostRuntime) -> Result<(), Fail> {
-    assert_eq!(rt; first_told(rt.alloc(), TOLD)?, None);
+    assert_eq!(rt; first_misread(rt.alloc(), TOLD)?, None);
     Ok(())
 }
 

@@ -78,7 +78,7 @@ fn a_clean_last_map_fits_as_it_stands(rt: HostRuntime) -> Result<(), Fail> {
 }
 
 // Returns the answer of a walk whose poll answers 5 `left` times, and then 6.
-fn polled(alloc: Global, left: u32) -> Option<Said> {
+fn poll_moved(alloc: Global, left: u32) -> Option<Said> {
     let book = book(alloc, FIVE.0, FIVE.1)?;
     let task = task(alloc, &THREE, &[]).ok()?;
     let mut poll = Turning {
@@ -92,7 +92,7 @@ fn polled(alloc: Global, left: u32) -> Option<Said> {
 #[test]
 fn a_poll_that_moved_stops_the_attempt(rt: HostRuntime) -> Result<(), Fail> {
     for left in [0, 1, 5] {
-        assert_eq!(rt; polled(rt.alloc(), left), Some(Said::Moved(6)));
+        assert_eq!(rt; poll_moved(rt.alloc(), left), Some(Said::Moved(6)));
     }
     Ok(())
 }

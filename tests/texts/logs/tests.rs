@@ -218,7 +218,7 @@ const REFUSED: &[(&[u8], Result<&[u8], LratErr>)] = &[
 ];
 
 #[test]
-fn what_is_taken(rt: HostRuntime) -> Result<(), Fail> {
+fn accepted_texts(rt: HostRuntime) -> Result<(), Fail> {
     let alloc = rt.alloc();
     for (text, answer) in TAKEN {
         assert!(rt; reads(alloc, 12, text, *answer));
@@ -227,7 +227,7 @@ fn what_is_taken(rt: HostRuntime) -> Result<(), Fail> {
 }
 
 #[test]
-fn what_is_refused(rt: HostRuntime) -> Result<(), Fail> {
+fn rejected_texts(rt: HostRuntime) -> Result<(), Fail> {
     let alloc = rt.alloc();
     for (text, answer) in REFUSED {
         assert!(rt; reads(alloc, 12, text, *answer));

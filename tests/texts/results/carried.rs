@@ -25,7 +25,7 @@ const TERMS: Terms = Terms {
 };
 
 // Checks whether the auction on these terms, with these answers, leaves this channel map, result and summary.
-fn leaves(
+fn outputs_match(
     alloc: Global,
     terms: Terms,
     answers: &[Given],
@@ -70,8 +70,8 @@ fn either_way(rt: HostRuntime) -> Result<(), Fail> {
     let alloc = rt.alloc();
     let rows = b"facility,outcome,round,price\n1,exit,2,0\n2,exit,1,0\n3,frozen,2,60\n";
     let counts = b"stations 3\non-air 2\nfrozen 1\nundecided 0\ntotal 60\n";
-    assert!(rt; leaves(alloc, TERMS, FOUR_FITS, &[(1, 15), (2, 14)], rows, counts)?);
-    assert!(rt; leaves(alloc, TERMS, OTHER_FITS, &[(1, 14), (2, 15)], rows, counts)?);
+    assert!(rt; outputs_match(alloc, TERMS, FOUR_FITS, &[(1, 15), (2, 14)], rows, counts)?);
+    assert!(rt; outputs_match(alloc, TERMS, OTHER_FITS, &[(1, 14), (2, 15)], rows, counts)?);
     Ok(())
 }
 
@@ -89,7 +89,7 @@ fn in_either_order(rt: HostRuntime) -> Result<(), Fail> {
     let rows = b"facility,outcome,round,price\n1,exit,2,0\n2,exit,1,0\n3,frozen,3,40\n";
     let counts = b"stations 3\non-air 2\nfrozen 1\nundecided 0\ntotal 40\n";
     assert!(rt;
-        leaves(
+        outputs_match(
             alloc,
             by_volume,
             FITS_BY_VOLUME,
@@ -100,14 +100,14 @@ fn in_either_order(rt: HostRuntime) -> Result<(), Fail> {
     );
     let rows = b"facility,outcome,round,price\n1,exit,2,0\n2,exit,1,0\n3,frozen,2,120\n";
     let counts = b"stations 3\non-air 2\nfrozen 1\nundecided 0\ntotal 120\n";
-    assert!(rt; leaves(alloc, terms, FOUR_FITS, &[(1, 15), (2, 14)], rows, counts)?);
+    assert!(rt; outputs_match(alloc, terms, FOUR_FITS, &[(1, 15), (2, 14)], rows, counts)?);
     Ok(())
 }
 
 // A repeated test needs no query. Station 2 is on air from the start, so station 1 is tested with it in both rounds. Station 1 goes on air
 // with the fit of its first test.
 #[test]
-fn a_test_like_the_one_before(rt: HostRuntime) -> Result<(), Fail> {
+fn prove_same_test_needs_no_query(rt: HostRuntime) -> Result<(), Fail> {
     let alloc = rt.alloc();
     let terms = Terms {
         value: 101,
@@ -115,6 +115,6 @@ fn a_test_like_the_one_before(rt: HostRuntime) -> Result<(), Fail> {
     };
     let rows = b"facility,outcome,round,price\n1,exit,2,0\n2,start,0,0\n3,frozen,2,60\n";
     let counts = b"stations 3\non-air 2\nfrozen 1\nundecided 0\ntotal 60\n";
-    assert!(rt; leaves(alloc, terms, THREE_FITS, &[(1, 15), (2, 14)], rows, counts)?);
+    assert!(rt; outputs_match(alloc, terms, THREE_FITS, &[(1, 15), (2, 14)], rows, counts)?);
     Ok(())
 }

@@ -63,7 +63,7 @@ fn has_channels(alloc: Global, rec: &Record, text: &[u8]) -> Result<bool, NoMemo
 }
 
 #[test]
-fn channels_are_told(rt: HostRuntime) -> Result<(), Fail> {
+fn channels_are_written(rt: HostRuntime) -> Result<(), Fail> {
     let alloc = rt.alloc();
     let three = record_of_three(alloc, 1000, refuted(alloc)?)?;
     assert!(rt; has_channels(alloc, &three, b"facility,channel\n1,15\n2,14\n")?);

@@ -2,7 +2,7 @@
 
 use crate::samples::books::three_stations;
 use crate::samples::scenarios::three_bids_by_one;
-use crate::texts::whole::{SECOND_ON_AIR, THREE_STATIONS};
+use crate::texts::complete_texts::{SECOND_ON_AIR, THREE_STATIONS};
 use auction_core::prefix::Prefix;
 use auction_core::record::Shown;
 use auction_core::transcript::TranscriptStep;
@@ -12,7 +12,7 @@ use pack_defs::scenario::Scenario;
 use std::alloc::{AllocError as NoMemory, Global};
 use std::test::Fail;
 use transcript_text::TextErr;
-use transcript_text::beginning::read_prefix;
+use transcript_text::prefix_reading::read_prefix;
 use transcript_text::reader::TranscriptReader;
 
 // What is kept of a text.

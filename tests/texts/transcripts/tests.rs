@@ -5,7 +5,7 @@ use crate::samples::books::{lone_station, three_stations};
 use crate::samples::scenarios::{lone_bid, three_bids_by_one};
 use crate::texts::transcripts::reader_tests::{Answer, is_same, reads_in_pieces};
 use crate::texts::transcripts::samples::{of_three, written};
-use crate::texts::whole::{
+use crate::texts::complete_texts::{
     LAST_LEFT_OPEN, LONE_STATION, SECOND_ON_AIR, THREE_BY_VOLUME, THREE_STATIONS,
 };
 use pack_defs::book::Book;

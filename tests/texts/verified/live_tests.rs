@@ -2,13 +2,13 @@
 
 use crate::samples::books::three_stations;
 use crate::samples::owners::{
-    ALL_STAY, AS_BID, FIRST_LEAVES, FIRST_STAYS, SECOND_DECLINES, SaidLines, saying,
+    ALL_STAY, AS_BID, FIRST_LEAVES, FIRST_STAYS, SECOND_DECLINES, SaidLines, owners_of_lines,
 };
 use crate::samples::scenarios::three_bids_by_one;
 use crate::texts::verified::samples::{
     APART, KIND, ORDER, Row, SOUND, STATION_3, is_as_said, misjudged,
 };
-use crate::texts::whole::{SECOND_ON_AIR, THREE_STATIONS};
+use crate::texts::complete_texts::{SECOND_ON_AIR, THREE_STATIONS};
 use pack_defs::book::Book;
 use pack_defs::owners::Owners;
 use pack_defs::scenario::Scenario;
@@ -42,7 +42,7 @@ fn is_found(
     lines: SaidLines,
     row: Row<'_>,
 ) -> Result<bool, NoMemory> {
-    let owners = saying(alloc, lines)?;
+    let owners = owners_of_lines(alloc, lines)?;
     let Ok(found) = found(alloc, sc, book, &owners, row.0) else {
         return Ok(false);
     };
@@ -143,7 +143,7 @@ const LIVE: &[(SaidLines, Row)] = &[
 
 // The owners' answers decide, both with values of 50, 70 and 10 cents and with values of 50, 101 and 10 cents.
 #[test]
-fn owners_say_what_is_shown(rt: HostRuntime) -> Result<(), Fail> {
+fn owners_are_in_the_record(rt: HostRuntime) -> Result<(), Fail> {
     let alloc = rt.alloc();
     let book = three_stations(alloc)?;
     let sc = three_bids_by_one(alloc, 70, 1, 1000)?;

@@ -3,14 +3,14 @@
 use crate::samples::books::{lone_station, three_stations};
 use crate::samples::scenarios::{lone_bid, three_bids_by_one};
 use crate::texts::verified::samples::{KIND, ORDER, STATION_3, two_workers};
-use crate::texts::whole::{SECOND_ON_AIR, THREE_STATIONS};
+use crate::texts::complete_texts::{SECOND_ON_AIR, THREE_STATIONS};
 use auction_core::auction::Auction;
 use auction_core::prefix::{ResumeErr, ShownWhy};
 use pack_defs::book::Book;
 use pack_defs::scenario::Scenario;
 use std::alloc::{AllocError as NoMemory, Global};
 use std::test::Fail;
-use transcript_text::beginning::read_prefix;
+use transcript_text::prefix_reading::read_prefix;
 
 // Where an auction resumes.
 #[derive(Clone, Copy)]
@@ -163,7 +163,7 @@ fn where_an_auction_goes_on(rt: HostRuntime) -> Result<(), Fail> {
 }
 
 #[test]
-fn without_a_query(rt: HostRuntime) -> Result<(), Fail> {
+fn tests_that_need_no_query(rt: HostRuntime) -> Result<(), Fail> {
     let alloc = rt.alloc();
     let book = lone_station(alloc)?;
     let sc = lone_bid(alloc)?;

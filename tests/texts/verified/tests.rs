@@ -5,7 +5,7 @@ use crate::samples::scenarios::{lone_bid, three_bids_by_one};
 use crate::texts::verified::samples::{
     APART, KIND, ORDER, Row, SOUND, STATION_3, misjudged, two_workers,
 };
-use crate::texts::whole::{LONE_STATION, SECOND_ON_AIR, THREE_BY_VOLUME, THREE_STATIONS};
+use crate::texts::complete_texts::{LONE_STATION, SECOND_ON_AIR, THREE_BY_VOLUME, THREE_STATIONS};
 use cert_types::answer::Place;
 use std::test::Fail;
 use transcript_check::ShownWhy;

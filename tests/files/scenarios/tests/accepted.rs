@@ -274,7 +274,7 @@ fn first_not_passed_over<'a>(
 }
 
 #[test]
-fn passes_other_members_over(rt: HostRuntime) -> Result<(), Fail> {
+fn other_members_are_skipped(rt: HostRuntime) -> Result<(), Fail> {
     const VALUES: &[&str] = &[
         "null",
         "true",

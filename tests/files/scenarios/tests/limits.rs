@@ -204,7 +204,7 @@ fn numbered(alloc: Global, count: usize) -> Result<String, NoMemory> {
 }
 
 // Checks whether a text with this many decrements, stations and workers is rejected for this cause, or accepted for `None`.
-fn is_said(
+fn has_line_for(
     alloc: Global,
     decrements: usize,
     stations: usize,
@@ -226,7 +226,7 @@ fn first_length(
     rows: &[(usize, usize, usize, Option<Fault>)],
 ) -> Result<Option<usize>, NoMemory> {
     for (i, (decrements, stations, workers, fault)) in rows.iter().enumerate() {
-        if !is_said(alloc, *decrements, *stations, *workers, *fault)? {
+        if !has_line_for(alloc, *decrements, *stations, *workers, *fault)? {
             return Ok(Some(i));
         }
     }

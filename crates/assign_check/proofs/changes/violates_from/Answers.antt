@@ -9,13 +9,13 @@ use Rattle.assign_check.proofs.Changed.{any-here, changed-from}
 use Rattle.assign_check.proofs.Violations.{is_violated_from}
 use Rattle.assign_check.proofs.changes.violates_from.Goals as goal
 
-pub returns-then-stands : goal.returns-then-stands
-returns-then-stands c =
+pub returns-then-is_on_channel : goal.returns-then-is_on_channel
+returns-then-is_on_channel c =
     let map = overlaid c.args.last.now c.args.changes.now in
     let test = is_violated_from map c.args.own in
     let pairs = c.pairs_from-p-items.result.now in
     let p : Pair = get_or pairs c.loop-p.p-index (record { f = 0; a = 0; g = 0; b = 0 }) in
-    let passes : test p ≡ true = and_from (p.a == c.args.own.1) (has_entry map (p.g, p.b)) (eq-eqb p.a c.args.own.1 c.if-p-own.true) (sym c.stands.ensures ∙ c.if-stands.true) in
+    let passes : test p ≡ true = and_from (p.a == c.args.own.1) (has_entry map (p.g, p.b)) (eq-eqb p.a c.args.own.1 c.if-p-own.true) (sym c.is_on_channel.ensures ∙ c.if-is_on_channel.true) in
     sym (any-here test pairs c.loop-p.p-index (record { f = 0; a = 0; g = 0; b = 0 }) c.loop-p-test.true passes)
     ∙ c.loop-p.invariant
     ∙ ap (list_any test) c.pairs_from-p-items.ensures

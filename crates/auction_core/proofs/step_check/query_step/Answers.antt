@@ -10,18 +10,18 @@ use Rattle.auction_core.proofs.step_check.query_step.Goals as goal
 
 pub settling-settled-requires : goal.settling-settled-requires
 settling-settled-requires c =
-    let v = c.args.clockwork.now in
+    let v = c.args.query_session.now in
     subst (λ b. IsQuery b c.in-Some.task) (sym c.book.ensures) (MatchOption-at_some _ (IsQuery v.book) c.in-Some.task c.in-Some.is c.in_ok-task.ensures.query)
 
 pub settle-requires-clause-standing : goal.settle-requires-clause-standing
 settle-requires-clause-standing c =
-    let v = c.args.clockwork.now in
+    let v = c.args.query_session.now in
     let is : task_of v.scenario v.book v.state ≡ Some c.in-Some.task = sym c.in_ok-task.ensures.task ∙ c.in-Some.is in
     ap has_ended c.in_ok-reserve-in-Ok.ensures.state ∙ standing v.scenario v.book v.state c.in-Some.task is
 
 pub settle-requires-clause-settles : goal.settle-requires-clause-settles
 settle-requires-clause-settles c =
-    let v = c.args.clockwork.now in
+    let v = c.args.query_session.now in
     let r = c.in_ok-reserve-in-Ok.ensures in
     let task = c.in-Some.task in
     let x = c.args.x in

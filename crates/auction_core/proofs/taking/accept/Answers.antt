@@ -8,6 +8,6 @@ use Rattle.auction_core.proofs.taking.accept.Goals as goal
 
 pub advance-requires-clause-settles : goal.advance-requires-clause-settles
 advance-requires-clause-settles c =
-    let w = c.args.clockwork.now in
-    let state : CoreState = state_at w c.args.notes.now in
+    let w = c.args.query_session.now in
+    let state : CoreState = state_at w c.args.pending_receipts.now in
     fit-settles w.scenario w.book state c.args.worker c.in-Fit.delta (subst (Answers w.scenario w.book state c.args.worker) c.in-Fit.is c.requires.valid)

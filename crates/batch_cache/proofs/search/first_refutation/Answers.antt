@@ -1,5 +1,5 @@
 use Rattle.std.proofs.Common.{◌∙◌, sym}
-use Rattle.batch_cache.proofs.LookLemmas.{passed-over}
+use Rattle.batch_cache.proofs.KeptRefutationLemmas.{passed-over}
 use Rattle.batch_cache.proofs.search.first_refutation.Goals as goal
 
 pub loop-key-preserved-then-not-may_answer : goal.loop-key-preserved-then-not-may_answer

@@ -13,8 +13,8 @@ pub get-clause-requires-clause-to_len : goal.get-clause-requires-clause-to_len
 get-clause-requires-clause-to_len c =
     subst (λ (z : Clauses). c.args.conflict.clause ≤ length z.list) (sym c.clauses.ensures.clauses) (false-number (lits_of c.args.trail.now.entries) c.args.trail.now.clauses.list c.args.conflict.clause c.requires).1
 
-pub meet-unresolved-requires : goal.meet-unresolved-requires
-meet-unresolved-requires c =
+pub mark_seen-unresolved-requires : goal.mark_seen-unresolved-requires
+mark_seen-unresolved-requires c =
     let within : LitsWithin c.args.trail.now.clauses.vars c.get-clause.result.now = false-within_at c.args.trail.now.clauses c.args.trail.now.entries (clause_at c.args.trail.now.clauses.list c.args.conflict.clause) c.get-clause.result.now c.keeps_reasons.ensures (subst (λ (z : Clauses). clause_at z.list c.args.conflict.clause ≡ Some c.get-clause.result.now) c.clauses.ensures.clauses c.get-clause.ensures.clause) c.requires in
     let size : length c.reset.new.self ≡ c.args.trail.now.clauses.vars = c.in_ok-reset.ensures.size ∙ (c.vars.ensures ∙ ap (λ (z : Clauses). z.vars) c.clauses-2.ensures.clauses) in
     subst (λ (n : ℕ). LitsWithin n c.get-clause.result.now) (sym size) within

@@ -40,20 +40,20 @@ get-clause-requires-clause-to_len c =
     let w = (number-at c.args.trail.now.clauses c.args.trail.now.entries c.entries-entries.result.now c.args.at c.in-Some.reason c.entries-entries.ensures c.keeps_reasons.ensures c.requires.within c.in-Some.is).1 in
     subst (λ (z : Clauses). c.in-Some.reason ≤ length z.list) (sym c.clauses.ensures.clauses) w
 
-pub can_be_spared-requires : goal.can_be_spared-requires
-can_be_spared-requires c = clause-at c.args.trail.now.clauses c.args.trail.now.entries c.entries-entries.result.now c.args.at c.in-Some.reason (length c.args.marks.now) c.get-clause.result.now c.entries-entries.ensures c.keeps_reasons.ensures c.requires.within c.in-Some.is (subst (λ (z : Clauses). clause_at z.list c.in-Some.reason ≡ Some c.get-clause.result.now) c.clauses.ensures.clauses c.get-clause.ensures.clause) c.requires.closed.size
+pub is_redundant-requires : goal.is_redundant-requires
+is_redundant-requires c = clause-at c.args.trail.now.clauses c.args.trail.now.entries c.entries-entries.result.now c.args.at c.in-Some.reason (length c.args.marks.now) c.get-clause.result.now c.entries-entries.ensures c.keeps_reasons.ensures c.requires.within c.in-Some.is (subst (λ (z : Clauses). clause_at z.list c.in-Some.reason ≡ Some c.get-clause.result.now) c.clauses.ensures.clauses c.get-clause.ensures.clause) c.requires.closed.size
 
-pub meet-more-requires : goal.meet-more-requires
-meet-more-requires c = clause-at c.args.trail.now.clauses c.args.trail.now.entries c.entries-entries.result.now c.args.at c.in-Some.reason (length c.args.marks.now) c.get-clause.result.now c.entries-entries.ensures c.keeps_reasons.ensures c.requires.within c.in-Some.is (subst (λ (z : Clauses). clause_at z.list c.in-Some.reason ≡ Some c.get-clause.result.now) c.clauses.ensures.clauses c.get-clause.ensures.clause) c.requires.closed.size
+pub mark_seen-more-requires : goal.mark_seen-more-requires
+mark_seen-more-requires c = clause-at c.args.trail.now.clauses c.args.trail.now.entries c.entries-entries.result.now c.args.at c.in-Some.reason (length c.args.marks.now) c.get-clause.result.now c.entries-entries.ensures c.keeps_reasons.ensures c.requires.within c.in-Some.is (subst (λ (z : Clauses). clause_at z.list c.in-Some.reason ≡ Some c.get-clause.result.now) c.clauses.ensures.clauses c.get-clause.ensures.clause) c.requires.closed.size
 
 pub resolve-requires-clause-from_one : goal.resolve-requires-clause-from_one
 resolve-requires-clause-from_one c = (within-at c.args.trail.now.clauses c.args.trail.now.entries c.entries-entries.result.now c.args.at c.entries-entries.ensures c.keeps_reasons.ensures c.requires.within).0
 
 pub returns-clause-closed : goal.returns-clause-closed
 returns-clause-closed c =
-    closed-after c.args.trail.now.clauses c.args.trail.now.entries c.args.at c.in-Some.reason none-yet c.get-clause.result.now c.args.marks.now c.meet-more.new.marks c.resolve.new.self
+    closed-after c.args.trail.now.clauses c.args.trail.now.entries c.args.at c.in-Some.reason none-yet c.get-clause.result.now c.args.marks.now c.mark_seen-more.new.marks c.resolve.new.self
     c.keeps_reasons.ensures c.requires.within
     (subst (λ (z : List TrailEntry). (get_or z c.args.at none-yet).reason ≡ Some c.in-Some.reason) c.entries-entries.ensures c.in-Some.is)
     (subst (λ (z : Clauses). clause_at z.list c.in-Some.reason ≡ Some c.get-clause.result.now) c.clauses.ensures.clauses c.get-clause.ensures.clause)
-    c.requires.closed c.meet-more.ensures.more c.meet-more.ensures.met c.resolve.ensures.size c.resolve.ensures.still
-    (subst (λ (z : List TrailEntry). (v : ℕ) → 1 ≤ v → resolves c.resolve.new.self v ≡ true → (v ≡ (get_or z c.args.at none-yet).lit.var) ⊎ (resolves c.meet-more.new.marks v ≡ true)) c.entries-entries.ensures c.resolve.ensures.others)
+    c.requires.closed c.mark_seen-more.ensures.more c.mark_seen-more.ensures.seen_variables c.resolve.ensures.size c.resolve.ensures.still
+    (subst (λ (z : List TrailEntry). (v : ℕ) → 1 ≤ v → resolves c.resolve.new.self v ≡ true → (v ≡ (get_or z c.args.at none-yet).lit.var) ⊎ (resolves c.mark_seen-more.new.marks v ≡ true)) c.entries-entries.ensures c.resolve.ensures.others)

@@ -3,7 +3,7 @@ use Rattle.std.proofs.Common.{◌≡◌, ◌<◌, ◌≤◌, length, true, optio
 use Rattle.std.proofs.lemmas.Bool.{eqb-false}
 use Rattle.cnf_encode.specs.Formula.{packing_formula, variables_in}
 use Rattle.cert_types.specs.declared.answer.Place.TheVariants.{LineAt}
-use Rattle.cert_types.specs.FirstLine.{ends_there}
+use Rattle.cert_types.specs.FirstLine.{is_empty_iff_last}
 use Rattle.cert_types.specs.Refutes.{is_subset}
 use Rattle.cert_types.specs.Valid.{learns}
 use Rattle.cert_types.proofs.CheckLemmas.{first-checked, proof-counted}
@@ -18,5 +18,5 @@ returns c =
     let some : 0 < length lines = omega (arith, eqb-false (length lines) 0 (sym c.is_empty.ensures ∙ c.if-is_empty.false)) in
     let few : length lines ≤ c.args.worker.now.budget = omega (arith, c.len.ensures, c.if-len-worker.false) in
     let sub : is_subset subset c.args.task.now.set ≡ true = ap (is_subset subset) (sym c.as_slice.ensures) ∙ sym c.is_subset.ensures ∙ c.if-not-is_subset.false in
-    let first = first-checked ends_there c.in_ok-clauses.clauses.vars (variables_in book subset) c.in_ok-clauses.clauses.list (packing_formula book subset) lines c.in_ok-not_following.not_following c.first_misplaced.result c.lesser.result c.in_ok-clauses.ensures.variables c.in_ok-clauses.ensures.clauses c.in_ok-not_following.ensures (c.first_misplaced.ensures (packing_formula book subset)) c.lesser.ensures in
+    let first = first-checked is_empty_iff_last c.in_ok-clauses.clauses.vars (variables_in book subset) c.in_ok-clauses.clauses.list (packing_formula book subset) lines c.in_ok-not_following.not_following c.first_misplaced.result c.lesser.result c.in_ok-clauses.ensures.variables c.in_ok-clauses.ensures.clauses c.in_ok-not_following.ensures (c.first_misplaced.ensures (packing_formula book subset)) c.lesser.ensures in
     c.line_at.ensures ∙ ap (option_map LineAt) first ∙ proof-counted book c.args.task.now c.args.worker.now subset lines learner some few sub

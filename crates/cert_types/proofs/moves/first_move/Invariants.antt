@@ -1,6 +1,6 @@
 -- The first invalid move is the first of the rest, in the map that the moves before the rest leave.
 use Rattle.std.proofs.Common.{◌≡◌, ◌+◌, drop}
-use Rattle.cert_types.specs.Walks.{first_move, start_map}
+use Rattle.cert_types.specs.Moves.{first_move, start_map}
 use Rattle.cert_types.proofs.moves.first_move.Given as goal
 
 abbrev pub invariant-loop-i : goal.invariant-loop-i

@@ -1,6 +1,6 @@
 use Rattle.std.proofs.Common.{◌≡◌, ◌&&◌, ◌∙◌, Bool, true, ap, sym}
 use Rattle.pack_defs.specs.ChannelMap.{put}
-use Rattle.cert_types.specs.Walks.{is_move, violates_some}
+use Rattle.cert_types.specs.Moves.{is_move, violates_some}
 use Rattle.cert_types.proofs.WalkLemmas.{mover-there}
 use Rattle.cert_types.proofs.moves.passes.Goals as goal
 

@@ -1,7 +1,7 @@
 use Rattle.std.proofs.Common.{◌≡◌, ◌∙◌, true, sym, ap, subst, take_all}
 use Rattle.pack_defs.specs.ChannelMap.{IsAscending}
 use Rattle.pack_defs.specs.Lists.{is_ascending}
-use Rattle.cert_types.specs.Walks.{start_map}
+use Rattle.cert_types.specs.Moves.{start_map}
 use Rattle.cert_types.proofs.WalkLemmas.{start-ascends}
 use Rattle.cert_types.proofs.start.start_map.Goals as goal
 

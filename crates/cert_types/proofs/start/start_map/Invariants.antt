@@ -1,6 +1,6 @@
 -- The stations visited so far are on their channels.
 use Rattle.std.proofs.Common.{◌≡◌, take}
-use Rattle.cert_types.specs.Walks.{start_map}
+use Rattle.cert_types.specs.Moves.{start_map}
 use Rattle.cert_types.proofs.start.start_map.Given as goal
 
 abbrev pub invariant-loop-s : goal.invariant-loop-s

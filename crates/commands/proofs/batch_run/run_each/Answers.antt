@@ -1,7 +1,7 @@
 -- Each result is that of the call at its place.
 use Rattle.std.proofs.Common.{◌∙◌, IfOk, get_or, subst, sym}
 use Rattle.commands.specs.contracts.inputs.Inputs as Inputs
-use Rattle.commands.specs.BatchRuns.{IsRun}
+use Rattle.commands.specs.BatchRun.{IsRun}
 use Rattle.commands.proofs.BatchEndLemmas.{both-ok, zip-both}
 use Rattle.commands.proofs.batch_run.run_each.Goals as goal
 

@@ -2,14 +2,14 @@
 -- written.
 use Rattle.std.proofs.Common.{refl, sym}
 use Rattle.commands.specs.Ends.ExportEnds.{FormulaStored, FormulaNotStored}
-use Rattle.command_words.specs.Words.{export_seen}
+use Rattle.command_words.specs.Words.{export_view}
 use Rattle.commands.proofs.ShownLemmas.{no-step, not-stored-so, stored-so}
 use Rattle.commands.proofs.export.store_formula.Goals as goal
 
 pub returns-in-Some-clause-ends : goal.returns-in-Some-clause-ends
 returns-in-Some-clause-ends g c =
-    no-step (export_seen c.args.files.now) _ _ _ _ _ c.args.inputs.now c.args.rec.now c.in-Some.fault c.requires.shown (sym c.in-Some.ensures) c.without_record.ensures.status c.without_record.ensures.none
-    refl c.say_step.ensures.says refl
+    no-step (export_view c.args.files.now) _ _ _ _ _ c.args.inputs.now c.args.rec.now c.in-Some.fault c.requires.shown (sym c.in-Some.ensures) c.without_record.ensures.status c.without_record.ensures.none
+    refl c.print_step_fault.ensures.says refl
 
 pub returns-in-Ok-store-clause-ends : goal.returns-in-Ok-store-clause-ends
 returns-in-Ok-store-clause-ends g c =

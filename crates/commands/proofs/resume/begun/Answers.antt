@@ -3,7 +3,7 @@ use Rattle.commands.proofs.ResumeEndLemmas.{read-begun, unread-begun}
 use Rattle.commands.proofs.resume.begun.Goals as goal
 
 pub returns-in-Ok : goal.returns-in-Ok
-returns-in-Ok c = λ text read. read-begun c.args.inputs.now text c.in-Ok.kept c.auction_behind.result (c.in-Ok.ensures text read) c.auction_behind.ensures
+returns-in-Ok c = λ text read. read-begun c.args.inputs.now text c.in-Ok.kept c.auction_after_prefix.result (c.in-Ok.ensures text read) c.auction_after_prefix.ensures
 
 pub returns-in-Err : goal.returns-in-Err
 returns-in-Err c = λ text read. rw c.not_read.ensures (unread-begun c.args.inputs.now text c.in-Err.why (c.in-Err.ensures text read))

@@ -9,14 +9,14 @@ returns-in-StartRefuted-clause-ends g c =
     let inputs = c.args.inputs.now in
     let rec = c.args.rec in
     let of : IsRefutedRecordIn rec.order inputs rec = subst (IsEndedRecordIn rec.order inputs rec) c.in-StartRefuted.is c.requires.of in
-    inr (Unfit of c.with_record.ensures.status c.with_record.ensures.kept c.say.ensures.says refl)
+    inr (Unfit of c.with_record.ensures.status c.with_record.ensures.kept c.print_line.ensures.says refl)
 
 pub returns-in-StartUndecided-clause-ends : goal.returns-in-StartUndecided-clause-ends
 returns-in-StartUndecided-clause-ends g c =
     let inputs = c.args.inputs.now in
     let rec = c.args.rec in
     let of : IsOpenRecordIn rec.order inputs rec = subst (IsEndedRecordIn rec.order inputs rec) c.in-StartUndecided.is c.requires.of in
-    inr (StartOpen of c.with_record-in-StartUndecided.ensures.status c.with_record-in-StartUndecided.ensures.kept c.say-in-StartUndecided.ensures.says refl)
+    inr (StartOpen of c.with_record-in-StartUndecided.ensures.status c.with_record-in-StartUndecided.ensures.kept c.print_line-in-StartUndecided.ensures.says refl)
 
 pub texts_of-requires-clause-of : goal.texts_of-requires-clause-of
 texts_of-requires-clause-of g c = subst (IsEndedRecordIn c.args.rec.order c.args.inputs.now c.args.rec) c.in-Done.is c.requires.of

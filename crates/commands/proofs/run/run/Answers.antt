@@ -1,7 +1,7 @@
 -- The auction of the inputs concludes, if they were read and memory sufficed.
 use Rattle.std.proofs.Common.{refl}
 use Rattle.commands.specs.Records.{run_order}
-use Rattle.command_words.specs.Words.{names_seen}
+use Rattle.command_words.specs.Words.{run_names_view}
 use Rattle.commands.proofs.EndLemmas.{own-ended}
 use Rattle.commands.proofs.RunEndLemmas.{run-concludes}
 use Rattle.commands.proofs.run.run.Goals as goal
@@ -13,6 +13,6 @@ conclude-requires-clause-of g c =
 
 pub returns-clause-ends : goal.returns-clause-ends
 returns-clause-ends g c =
-    run-concludes (names_seen c.args.files.now) _ _ _ _ _ c.in-Ok.inputs c.in-Ok-auction_of.record c.in-Ok.ensures.told
+    run-concludes (run_names_view c.args.files.now) _ _ _ _ _ c.in-Ok.inputs c.in-Ok-auction_of.record c.in-Ok.ensures.modelled
     (record { files = c.in-Ok.ensures.files; faults = c.in-Ok.ensures.counted.kept; steady = c.in-Ok.ensures.steady; held = refl; cuts = refl; sure = refl })
     c.in-Ok-auction_of.ensures c.conclude.ensures.ends

@@ -2,8 +2,8 @@ use Rattle.std.proofs.Common.{◌≡◌, ◌∙◌, codes, drop, false, refl, ru
 use Rattle.std.specs.Option.{ok_or}
 use Rattle.std.specs.Str.{bytes_eq}
 use Rattle.std.proofs.lemmas.Result.{err_from_is_err_and}
-use Rattle.constraint_files.specs.Domains.{domain_naming}
-use Rattle.constraint_files.specs.Numbers.{numbers}
+use Rattle.constraint_files.specs.Domains.{domain_with_channels}
+use Rattle.constraint_files.specs.Field.{numbers}
 use Rattle.constraint_files.specs.declared.error.RowWhy.TheVariants.{BadNumber}
 use Rattle.constraint_files.proofs.DomainLemmas.{domain_row-is, without-first, without-second}
 use Rattle.constraint_files.proofs.ReadsLemmas.{takes-on}
@@ -40,7 +40,7 @@ returns-in_err-named c =
     let station = sym c.number_at.ensures ∙ c.in-Some.is in
     let p = err_from_is_err_and c.from_residual.result c.from_residual.ensures.1 in
     rw (domain_row-is c.args.fields.now c.in-Some-Some.key.now c.in-Some-Some.field-0-1.now first second, yes, station, p.1, p.2)
-    (takes-on (domain_naming c.in-Some.station) (ok_or (numbers (drop 2 c.args.fields.now)) BadNumber) c.in_err-named.field-0.0 c.in_err-named.ensures)
+    (takes-on (domain_with_channels c.in-Some.station) (ok_or (numbers (drop 2 c.args.fields.now)) BadNumber) c.in_err-named.field-0.0 c.in_err-named.ensures)
 
 pub returns : goal.returns
 returns c =
@@ -49,4 +49,4 @@ returns c =
     let yes : bytes_eq c.in-Some-Some.key.now (codes "DOMAIN") ≡ true = search rules in
     let station = sym c.number_at.ensures ∙ c.in-Some.is in
     let named = c.in_ok-named.ensures in
-    rw (domain_row-is c.args.fields.now c.in-Some-Some.key.now c.in-Some-Some.field-0-1.now first second, yes, station, named) (rw c.as_slice.ensures at c.domain_naming.ensures)
+    rw (domain_row-is c.args.fields.now c.in-Some-Some.key.now c.in-Some-Some.field-0-1.now first second, yes, station, named) (rw c.as_slice.ensures at c.domain_with_channels.ensures)

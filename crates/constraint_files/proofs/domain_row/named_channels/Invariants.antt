@@ -1,7 +1,7 @@
 use Rattle.std.proofs.Common.{◌≡◌, ◌<◌, ℕ, true, false, length, get_or, take}
 use Rattle.std.specs.List.{list_all}
 use Rattle.pack_defs.specs.Lists.{is_in}
-use Rattle.constraint_files.specs.Numbers.{is_channel}
+use Rattle.constraint_files.specs.Field.{is_channel}
 use Rattle.constraint_files.proofs.domain_row.named_channels.Given as goal
 
 abbrev pub invariant-loop-number : goal.invariant-loop-number

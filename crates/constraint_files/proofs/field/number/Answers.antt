@@ -4,7 +4,7 @@ use Rattle.std.specs.Str.Parse.{digits_value}
 use Rattle.std.proofs.lemmas.Bool.{eqb-false, eqb-true}
 use Rattle.std.proofs.lemmas.List.{nil_from_length, take_all}
 use Rattle.pack_defs.proofs.Digits.{more-digits, more-value}
-use Rattle.constraint_files.specs.Numbers.{number}
+use Rattle.constraint_files.specs.Field.{number}
 use Rattle.constraint_files.proofs.NumberLemmas.{all-digits, bad-digit, too-large}
 use Rattle.constraint_files.proofs.field.number.Goals as goal
 

@@ -1,6 +1,6 @@
 use Rattle.std.proofs.Common.{◌≡◌, ◌++◌, drop}
 use Rattle.std.specs.Option.{option_map}
-use Rattle.constraint_files.specs.Numbers.{numbers}
+use Rattle.constraint_files.specs.Field.{numbers}
 use Rattle.constraint_files.proofs.field.numbers_from.Given as goal
 
 abbrev pub invariant-loop-i : goal.invariant-loop-i

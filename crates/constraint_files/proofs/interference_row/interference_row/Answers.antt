@@ -1,8 +1,8 @@
 use Rattle.std.proofs.Common.{◌∙◌, sym, refl, drop}
 use Rattle.std.specs.Option.{ok_or}
 use Rattle.std.proofs.lemmas.Result.{err_from_is_err_and}
-use Rattle.constraint_files.specs.Numbers.{numbers}
-use Rattle.constraint_files.specs.Rows.{row_on}
+use Rattle.constraint_files.specs.Field.{numbers}
+use Rattle.constraint_files.specs.PairTable.{row_on}
 use Rattle.constraint_files.specs.declared.error.RowWhy.TheVariants.{BadNumber}
 use Rattle.constraint_files.proofs.ReadsLemmas.{takes-on}
 use Rattle.constraint_files.proofs.RowLemmas.{interference_row-is, without-first, without-fourth}

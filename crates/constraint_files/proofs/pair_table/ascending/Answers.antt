@@ -1,5 +1,5 @@
 use Rattle.std.proofs.Common.{◌∙◌, ap, fold, sym}
-use Rattle.constraint_files.specs.Rows.{with_pair}
+use Rattle.constraint_files.specs.PairTable.{with_pair}
 use Rattle.constraint_files.proofs.PairOrder.{insert-pairs, none-left}
 use Rattle.constraint_files.proofs.pair_table.ascending.Goals as goal
 

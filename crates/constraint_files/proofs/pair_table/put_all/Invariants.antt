@@ -1,5 +1,5 @@
 use Rattle.std.proofs.Common.{◌≡◌, fold}
-use Rattle.constraint_files.specs.Rows.{with_pair}
+use Rattle.constraint_files.specs.PairTable.{with_pair}
 use Rattle.constraint_files.proofs.pair_table.put_all.Given as goal
 
 abbrev pub invariant-loop-pair : goal.invariant-loop-pair

@@ -5,10 +5,10 @@ use Rattle.csv.specs.Reading.{Reached, default_config, strip_bom}
 use Rattle.csv.specs.Records.{fields_of}
 use Rattle.csv.specs.declared.parser.State.TheVariants as st
 use Rattle.csv.proofs.ReadFacts.{rows-end, rows-more}
-use Rattle.constraint_files.specs.Runs.{after_raws, raw_records}
+use Rattle.constraint_files.specs.PlainLines.{after_raws, raw_records}
 use Rattle.constraint_files.proofs.CsvLemmas.{rows_from}
 use Rattle.constraint_files.proofs.RunLemmas.{next-stops, raws-more, refused-row}
-use Rattle.constraint_files.proofs.Whole.{are-records}
+use Rattle.constraint_files.proofs.WholeLineLemmas.{are-records}
 use Rattle.constraint_files.proofs.plain_lines.add_records.Goals as goal
 
 pub loop-row-init : goal.loop-row-init

@@ -2,7 +2,7 @@ use Rattle.std.proofs.Common.{◌≡◌, ◌<◌, ℕ, List, Some, Ok, length}
 use Rattle.csv.specs.Reading.{Reached, Ready, default_config, source_of, strip_bom}
 use Rattle.csv.specs.declared.parser.State.TheVariants as st
 use Rattle.csv.specs.declared.reader.Trim.TheVariants as trim
-use Rattle.constraint_files.specs.Runs.{after_raws}
+use Rattle.constraint_files.specs.PlainLines.{after_raws}
 use Rattle.constraint_files.proofs.plain_lines.add_records.Given as goal
 
 abbrev pub invariant-loop-row : goal.invariant-loop-row

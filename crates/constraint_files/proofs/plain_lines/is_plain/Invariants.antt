@@ -1,5 +1,5 @@
 use Rattle.std.proofs.Common.{◌≡◌, drop}
-use Rattle.constraint_files.specs.Runs.{is_plain}
+use Rattle.constraint_files.specs.PlainLines.{is_plain}
 use Rattle.constraint_files.proofs.plain_lines.is_plain.Given as goal
 
 abbrev pub invariant-loop-byte : goal.invariant-loop-byte

@@ -3,7 +3,7 @@ use Rattle.std.proofs.lemmas.Bool.{eqb-true}
 use Rattle.std.proofs.lemmas.List.{length-map, nil_from_length}
 use Rattle.csv.specs.Records.{Row, fields_of}
 use Rattle.constraint_files.specs.Records.{lines_of}
-use Rattle.constraint_files.specs.Runs.{raw_records}
+use Rattle.constraint_files.specs.PlainLines.{raw_records}
 use Rattle.constraint_files.proofs.RunLemmas.{line_at-next, line_at-none, line_at-stops}
 use Rattle.constraint_files.proofs.plain_lines.line_at.Goals as goal
 

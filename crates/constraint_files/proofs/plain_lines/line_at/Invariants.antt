@@ -1,6 +1,6 @@
 use Rattle.std.proofs.Common.{◌≡◌, length}
 use Rattle.constraint_files.specs.Records.{lines_of}
-use Rattle.constraint_files.specs.Runs.{line_number_at}
+use Rattle.constraint_files.specs.PlainLines.{line_number_at}
 use Rattle.constraint_files.proofs.plain_lines.line_at.Given as goal
 
 abbrev pub invariant-loop-rest : goal.invariant-loop-rest

@@ -1,7 +1,7 @@
 use Rattle.std.proofs.Common.{◌≡◌, ◌∙◌, ◌∷◌, [], ℕ, Vec, Global, get_or, arith, refl}
 use Rattle.std.proofs.lemmas.List.{map-append, take_more}
 use Rattle.constraint_files.proofs.FieldLemmas.{field-at}
-use Rattle.constraint_files.proofs.Whole.{some_is}
+use Rattle.constraint_files.proofs.WholeLineLemmas.{some_is}
 use Rattle.constraint_files.proofs.records.own_fields.Goals as goal
 
 pub unreachable-requires : goal.unreachable-requires

@@ -5,7 +5,7 @@ use Rattle.csv.specs.Reading.{Reached, default_config, strip_bom}
 use Rattle.csv.specs.Records.{Row, fields_of}
 use Rattle.csv.specs.declared.parser.State.TheVariants as st
 use Rattle.csv.proofs.ReadFacts.{rows-end, rows-more}
-use Rattle.constraint_files.proofs.Whole.{are-records}
+use Rattle.constraint_files.proofs.WholeLineLemmas.{are-records}
 use Rattle.constraint_files.proofs.records.rows_of_line.Goals as goal
 
 pub loop-record-init : goal.loop-record-init

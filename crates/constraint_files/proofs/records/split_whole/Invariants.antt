@@ -1,5 +1,5 @@
 use Rattle.std.proofs.Common.{◌≡◌, ◌≤◌, false, drop, length}
-use Rattle.constraint_files.specs.Pieces.{has_end}
+use Rattle.constraint_files.specs.LineReader.{has_end}
 use Rattle.constraint_files.proofs.records.split_whole.Given as goal
 
 abbrev pub invariant-loop-end : goal.invariant-loop-end

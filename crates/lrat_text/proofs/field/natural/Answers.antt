@@ -4,7 +4,7 @@ use Rattle.std.specs.Str.Parse.{digits_value}
 use Rattle.std.proofs.lemmas.Bool.{eqb-false, eqb-true}
 use Rattle.std.proofs.lemmas.List.{nil_from_length, take_all}
 use Rattle.pack_defs.proofs.Digits.{more-digits, more-value}
-use Rattle.lrat_text.specs.LogReading.{natural}
+use Rattle.lrat_text.specs.Read.{natural}
 use Rattle.lrat_text.proofs.DigitLemmas.{all-within, bad-digit, too-large}
 use Rattle.lrat_text.proofs.field.natural.Goals as goal
 

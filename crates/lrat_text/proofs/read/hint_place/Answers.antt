@@ -6,7 +6,7 @@ use Rattle.std.proofs.lemmas.Bool.{le-leb, lt-leb}
 use Rattle.pack_defs.specs.Lists.{is_in}
 use Rattle.pack_defs.proofs.Searches.{found-number}
 use Rattle.pack_defs.proofs.Words.{ascending-rest}
-use Rattle.lrat_text.specs.LogReading.{hint_place}
+use Rattle.lrat_text.specs.Read.{hint_place}
 use Rattle.lrat_text.proofs.ReadLemmas.{placed, nowhere, room}
 use Rattle.lrat_text.proofs.read.hint_place.Goals as goal
 
@@ -24,12 +24,12 @@ pub returns-then-h-clauses : goal.returns-then-h-clauses
 unfolding hint_place
 returns-then-h-clauses c = rw (le-leb c.args.h c.args.clauses (omega (arith, c.if-h-clauses.true))) refl
 
-pub returns-then-stands_at : goal.returns-then-stands_at
+pub returns-then-is_at_place : goal.returns-then-is_at_place
 unfolding hint_place
-returns-then-stands_at c =
+returns-then-is_at_place c =
     let numbers = c.args.numbers.now in
     let i = c.args.h - c.args.clauses - 1 in
-    let some = c.if-stands_at.ensures in
+    let some = c.if-is_at_place.ensures in
     let at : c.args.clauses + 1 + i ≡ c.args.h = omega (arith, c.if-h-clauses.false) in
     let here = standing numbers i c.args.h some in
     rw (lt-leb c.args.h c.args.clauses (omega (arith, c.if-h-clauses.false)))

@@ -13,8 +13,8 @@ pub returns-in-Err : goal.returns-in-Err
 returns-in-Err c =
     hints-stop c.loop-word.hints.items c.args.n c.args.clauses c.args.numbers.now c.in-Some.word.now _ (words_of c.in-Some.after.now) c.in-Some-Number.hint c.in-Err.why _ c.in-Some.ensures.words (sym c.in-Some-Number.ensures ∙ ap Some c.in-Some-Number.field-0-is) c.in-Err.ensures c.loop-word.invariant
 
-pub returns-then-is_bare : goal.returns-then-is_bare
-returns-then-is_bare c =
+pub returns-then-is_blank_line : goal.returns-then-is_blank_line
+returns-then-is_blank_line c =
     let p : is_empty (words_of c.in-Some.after.now) ≡ true = search rules in
     hints-end c.loop-word.hints.items c.args.n c.args.clauses c.args.numbers.now c.in-Some.word.now _ (words_of c.in-Some.after.now) _ c.in-Some.ensures.words (sym c.in-Some-End.ensures ∙ ap Some c.in-Some-End.field-0-is) p c.loop-word.invariant
 

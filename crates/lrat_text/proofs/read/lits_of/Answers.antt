@@ -1,6 +1,6 @@
 use Rattle.std.proofs.Common.{◌∙◌, Some, ap, sym}
 use Rattle.lrat_text.specs.Lines.{words_of}
-use Rattle.lrat_text.specs.LogReading.{log_lits_at}
+use Rattle.lrat_text.specs.Read.{log_lits_at}
 use Rattle.lrat_text.proofs.ReadLemmas.{lits-more, lits-end, lits-bad, lits-none}
 use Rattle.lrat_text.proofs.read.lits_of.Goals as goal
 

@@ -1,7 +1,7 @@
 -- If memory runs out at a number, a first part of the numbers was appended.
 use Rattle.std.proofs.Common.{◌∙◌, ◌+◌, ◌<◌, ◌∷◌, ◌++◌, [], ℕ, List, ap, arith, decimal, drop, get_or, length, map, sym, take}
 use Rattle.std.proofs.lemmas.List.{drop_more}
-use Rattle.lrat_text.specs.LogText.{spaced}
+use Rattle.lrat_text.specs.Write.{spaced}
 use Rattle.lrat_text.proofs.CutLemmas.{all-begins, none-begins, numbers-cut, part-begins}
 use Rattle.lrat_text.proofs.write.push_each.Goals as goal
 

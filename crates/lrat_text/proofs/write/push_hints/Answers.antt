@@ -1,6 +1,6 @@
 -- If memory runs out at a hint, a first part of the hints was appended.
 use Rattle.std.proofs.Common.{◌∙◌, ◌∷◌, [], ℕ, List, ap, decimal, map, refl, sym}
-use Rattle.lrat_text.specs.LogText.{spaced}
+use Rattle.lrat_text.specs.Write.{spaced}
 use Rattle.lrat_text.proofs.CutLemmas.{all-begins, none-begins, step-begins}
 use Rattle.lrat_text.proofs.write.push_hints.Goals as goal
 

@@ -1,5 +1,5 @@
 use Rattle.std.proofs.Common.{ℕ, List, ◌≡◌, ◌++◌, decimal, length, map}
-use Rattle.lrat_text.specs.LogText.{spaced}
+use Rattle.lrat_text.specs.Write.{spaced}
 use Rattle.lrat_text.proofs.write.push_hints.Given as goal
 
 abbrev pub invariant-loop-hint : goal.invariant-loop-hint

@@ -3,7 +3,7 @@ use Rattle.std.proofs.lemmas.List.{drop_all, drop_more}
 use Rattle.rup_check.specs.declared.line.Line.{Line}
 use Rattle.rup_check.specs.Packed.{line_at, no_line}
 use Rattle.lrat_text.specs.Lines.{line_of}
-use Rattle.lrat_text.specs.LogText.{log_fields, log_text}
+use Rattle.lrat_text.specs.Write.{log_fields, log_text}
 use Rattle.lrat_text.proofs.CutLemmas.{all-begins, grown, step-begins}
 use Rattle.lrat_text.proofs.write.push_lines.Goals as goal
 

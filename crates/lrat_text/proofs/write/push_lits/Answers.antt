@@ -1,7 +1,7 @@
 -- If memory runs out at a literal, a first part of the literals was appended.
 use Rattle.std.proofs.Common.{◌∷◌, [], ℕ, List, ap, map, refl, sym}
 use Rattle.clause_db.specs.declared.lit.Lit.{Lit}
-use Rattle.lrat_text.specs.LogText.{lit_text, spaced}
+use Rattle.lrat_text.specs.Write.{lit_text, spaced}
 use Rattle.lrat_text.proofs.CutLemmas.{none-begins, step-begins, then-begins}
 use Rattle.lrat_text.proofs.write.push_lits.Goals as goal
 

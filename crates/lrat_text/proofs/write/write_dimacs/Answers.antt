@@ -1,6 +1,6 @@
 use Rattle.std.proofs.Common.{◌≡◌, arith, refl, take}
 use Rattle.std.proofs.lemmas.List.{take_all}
-use Rattle.lrat_text.specs.LogText.{dimacs_text}
+use Rattle.lrat_text.specs.Write.{dimacs_text}
 use Rattle.lrat_text.proofs.write.write_dimacs.Goals as goal
 
 pub returns : goal.returns

@@ -1,6 +1,6 @@
 use Rattle.std.proofs.Common.{◌∙◌, sym, ap, map}
 use Rattle.std.proofs.lemmas.Result.{err_from_is_err_and}
-use Rattle.owner_line.proofs.SaidLemmas.{stops-own, next-own, none-own}
+use Rattle.owner_line.proofs.OwnerLineLemmas.{stops-own, next-own, none-own}
 use Rattle.owner_line.proofs.read.add_line.Goals as goal
 
 pub returns-in_err-add_record : goal.returns-in_err-add_record

@@ -2,7 +2,7 @@ use Rattle.std.proofs.Common.{◌∙◌, arith, refl, sym}
 use Rattle.std.proofs.lemmas.Bool.{eqb-true}
 use Rattle.std.proofs.lemmas.List.{nil_from_length}
 use Rattle.owner_line.specs.OwnersOf.{owners_of}
-use Rattle.owner_line.proofs.SaidLemmas.{line-next, line-stops, lines-none}
+use Rattle.owner_line.proofs.OwnerLineLemmas.{line-next, line-stops, lines-none}
 use Rattle.owner_line.proofs.read.read_owners.Goals as goal
 
 pub loop-rest-init : goal.loop-rest-init

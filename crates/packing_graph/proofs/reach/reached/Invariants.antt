@@ -1,7 +1,7 @@
 use Rattle.std.proofs.Common.{◌+◌, length}
 use Rattle.std.specs.BTreeSet.{contains}
 use Rattle.std.specs.Ordering.{nat_cmp}
-use Rattle.packing_graph.specs.Walks.{count_unseen}
+use Rattle.packing_graph.specs.Reach.{count_unseen}
 use Rattle.packing_graph.proofs.Reached.{IsWalk}
 use Rattle.packing_graph.proofs.reach.reached.Given as goal
 

@@ -1,7 +1,7 @@
 use Rattle.std.proofs.Common.{take}
 use Rattle.std.specs.BTreeSet.{contains}
 use Rattle.std.specs.Ordering.{nat_cmp}
-use Rattle.packing_graph.specs.Walks.{IsVisited}
+use Rattle.packing_graph.specs.Reach.{IsVisited}
 use Rattle.packing_graph.proofs.reach.visit.Given as goal
 
 abbrev pub invariant-loop-t : goal.invariant-loop-t

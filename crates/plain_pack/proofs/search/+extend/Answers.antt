@@ -3,7 +3,7 @@ use Rattle.std.proofs.Math.Seq.{take-append_seam}
 use Rattle.std.proofs.lemmas.List.{length-append, take_more, take_all}
 use Rattle.std.proofs.lemmas.List.Elements.{Contains-get_or}
 use Rattle.pack_defs.specs.Book.{domain_of}
-use Rattle.plain_pack.specs.Search.{Extends, stands_with}
+use Rattle.plain_pack.specs.Search.{Extends, is_compatible_with}
 use Rattle.pack_defs.proofs.Words.{entry}
 use Rattle.plain_pack.proofs.PackSearch.{beside, extends-by, extends-nil, none-beyond, none-by, none-whole, not-beside}
 use Rattle.plain_pack.proofs.search.+extend.Goals as goal
@@ -31,13 +31,13 @@ returns-in_default t c =
 one_more : (channels : List ℕ) (i : ℕ) → i < length channels → take (i + 1) channels ≡ take i channels ++ get_or channels i 0 ∷ []
 one_more channels i h = take_more channels i 0 h
 
-pub loop-channel-preserved-then-not-stands : goal.loop-channel-preserved-then-not-stands
-loop-channel-preserved-then-not-stands t c =
+pub loop-channel-preserved-then-not-is_compatible : goal.loop-channel-preserved-then-not-is_compatible
+loop-channel-preserved-then-not-is_compatible t c =
     let inv = c.loop-channel.invariant in
     let inside : c.loop-channel.channel-index < length c.domain-channel-items.result.now = omega arith in
     let chosen : c.deref.result.now ≡ c.args.chosen.now.items = c.deref.ensures.value ∙ inv.chosen in
-    let apart_not : stands_with c.args.book.now c.args.chosen.now.items (c.in-Some.station.now, get_or c.domain-channel-items.result.now c.loop-channel.channel-index 0) ≡ false =
-    rw chosen at (sym c.if-not-stands.ensures) in
+    let apart_not : is_compatible_with c.args.book.now c.args.chosen.now.items (c.in-Some.station.now, get_or c.domain-channel-items.result.now c.loop-channel.channel-index 0) ≡ false =
+    rw chosen at (sym c.if-not-is_compatible.ensures) in
     record {
       chosen = inv.chosen;
       apart = inv.apart;
@@ -51,7 +51,7 @@ extend-requires t c =
     let inv = c.loop-channel.invariant in
     let chosen : c.deref.result.now ≡ c.args.chosen.now.items = c.deref.ensures.value ∙ inv.chosen in
     let x = entry c.in-Some.station.now (get_or c.domain-channel-items.result.now c.loop-channel.channel-index 0) in
-    let stands : stands_with c.args.book.now c.args.chosen.now.items x ≡ true = rw chosen at (sym c.if-not-stands.ensures) in
+    let stands : is_compatible_with c.args.book.now c.args.chosen.now.items x ≡ true = rw chosen at (sym c.if-not-is_compatible.ensures) in
     let whole : c.push.new.self.items ≡ c.args.chosen.now.items ++ x ∷ [] = c.in_ok-push.ensures.items ∙ ap (λ z. z ++ x ∷ []) inv.chosen in
     let fewer : length c.in-Some.others.now + 1 ≡ length c.args.left.now = c.in-Some.ensures.cases.1 in
     (search rules, rw whole (beside c.args.book.now c.args.chosen.now.items x inv.apart stands))

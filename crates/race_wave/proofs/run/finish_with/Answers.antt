@@ -1,10 +1,10 @@
 -- The record continues from where the auction was.
-use Rattle.auction_core.proofs.GoesOn.{goes-in}
+use Rattle.auction_core.proofs.Continues.{goes-in}
 use Rattle.race_wave.proofs.MeasureLemmas.{later-goes}
 use Rattle.race_wave.proofs.run.finish_with.Goals as goal
 
-pub returns-clause-goes_on : goal.returns-clause-goes_on
-returns-clause-goes_on g c =
+pub returns-clause-continues : goal.returns-clause-continues
+returns-clause-continues g c =
     let old = c.args.auction in
     let new = c.in_ok-auction.auction in
     let goes = later-goes old new c.in_ok-auction.ensures.beginning c.in_ok-auction.ensures.history c.keeps_the_rule.ensures.replays c.keeps_the_rule-2.ensures.replays in

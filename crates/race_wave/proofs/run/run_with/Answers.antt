@@ -3,7 +3,7 @@ use Rattle.std.proofs.Common.{◌∙◌, ap, subst}
 use Rattle.std.specs.Prelude.{IfOk}
 use Rattle.pack_defs.specs.declared.order.Order.TheVariants.{ByVolume}
 use Rattle.auction_core.specs.Backed.{IsBacked}
-use Rattle.auction_core.specs.Postings.{GoesOnIn}
+use Rattle.auction_core.specs.Postings.{ContinuesIn}
 use Rattle.auction_core.specs.State.{CoreState}
 use Rattle.auction_core.proofs.Orders.{opening-order}
 use Rattle.race_wave.proofs.run.run_with.Goals as goal
@@ -14,5 +14,5 @@ returns-clause-backed g c =
     subst (λ sc. IfOk c.finish_with.result (IsBacked sc c.args.book.now ByVolume)) c.in_ok-scenario.ensures
     (subst (λ o. IfOk c.finish_with.result (IsBacked c.in_ok-scenario.scenario c.args.book.now o)) order c.finish_with.ensures.backed)
 
-pub returns-clause-goes_on : goal.returns-clause-goes_on
-returns-clause-goes_on g c = subst (λ state. IfOk c.finish_with.result (GoesOnIn state)) c.in_ok-auction.ensures.state c.finish_with.ensures.goes_on
+pub returns-clause-continues : goal.returns-clause-continues
+returns-clause-continues g c = subst (λ state. IfOk c.finish_with.result (ContinuesIn state)) c.in_ok-auction.ensures.state c.finish_with.ensures.continues

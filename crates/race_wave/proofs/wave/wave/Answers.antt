@@ -5,7 +5,7 @@ use Rattle.answer_board.proofs.Crosses.{board-sync, book-sync}
 use Rattle.race_wave.proofs.Crosses.{captured-sync, runner-send}
 use Rattle.std.proofs.Common.{rules, subst}
 use Rattle.race_wave.specs.declared.runner.Runner.{Runner}
-use Rattle.race_wave.specs.Waves.{HasRaced}
+use Rattle.race_wave.specs.Wave.{HasRaced}
 use Rattle.race_wave.proofs.WaveLemmas.{zip-each}
 use Rattle.race_wave.proofs.wave.wave.Goals as goal
 

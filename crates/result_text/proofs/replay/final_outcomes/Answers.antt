@@ -15,17 +15,17 @@ loop-step-init c =
     let none : c.in_ok-undecided.undecided.items ≡ replicate (length c.as_slice.result.now) false = search rules in
     record {
       clock = c.in_ok-clock.ensures;
-      undecided = none ∙ opening-frozen (undecided_of c.args.rec.now.steps) (length c.as_slice.result.now) (ap length c.as_slice.ensures) c.in_ok-clock.ensures.standings;
+      undecided = none ∙ opening-frozen (undecided_of c.args.rec.now.steps) (length c.as_slice.result.now) (ap length c.as_slice.ensures) c.in_ok-clock.ensures.station_statuses;
     }
 
 pub settle-requires-clause-stations : goal.settle-requires-clause-stations
-settle-requires-clause-stations c = length-standings c.loop-step.invariant.clock.standings
+settle-requires-clause-stations c = length-standings c.loop-step.invariant.clock.station_statuses
 
 pub settle-requires-clause-active : goal.settle-requires-clause-active
 settle-requires-clause-active c =
     let n = next (goal.at.settle-requires-clause-active c).After-place_of in
     let place = rw c.as_slice-in-loop-step.ensures at c.in-Some.ensures in
-    next-active c.in-Some.i n c.loop-step.invariant.clock.standings place.0 place.1
+    next-active c.in-Some.i n c.loop-step.invariant.clock.station_statuses place.0 place.1
 
 pub settle-requires-clause-unpaid : goal.settle-requires-clause-unpaid
 settle-requires-clause-unpaid c =
@@ -49,7 +49,7 @@ loop-step-preserved c =
     let place = rw c.as_slice-in-loop-step.ensures at c.in-Some.ensures in
     record {
       clock = rw (c.settle.ensures, c.shows_room.ensures, place.1) (next-clock c.in-Some.i n c.requires.limits.ascend c.loop-step.invariant.clock place.0 place.1);
-      undecided = rw (c.loop-step.invariant.undecided, c.is_undecided.ensures, c.settle.ensures, c.shows_room.ensures, place.1) (next-frozen c.loop-step.clock.standings c.in-Some.i n place.0 place.1);
+      undecided = rw (c.loop-step.invariant.undecided, c.is_undecided.ensures, c.settle.ensures, c.shows_room.ensures, place.1) (next-frozen c.loop-step.clock.station_statuses c.in-Some.i n place.0 place.1);
     }
 
 pub returns-clause-clock : goal.returns-clause-clock

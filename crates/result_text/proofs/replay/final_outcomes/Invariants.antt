@@ -8,5 +8,5 @@ use Rattle.result_text.proofs.replay.final_outcomes.Given as goal
 abbrev pub invariant-loop-step : goal.invariant-loop-step
 invariant-loop-step l = record {
   clock : IsClockOf l.sc (after_steps l.sc (after_start l.sc l.rec.order l.rec.start) (take l.step-index l.step-items)).clock l.clock;
-  undecided : l.undecided.items ≡ each_frozen_by (undecided_of l.rec.steps) (facilities l.sc) l.clock.standings;
+  undecided : l.undecided.items ≡ each_frozen_by (undecided_of l.rec.steps) (facilities l.sc) l.clock.station_statuses;
 }

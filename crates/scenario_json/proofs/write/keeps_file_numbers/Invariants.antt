@@ -1,5 +1,5 @@
 use Rattle.std.proofs.Common.{All, take}
-use Rattle.scenario_json.specs.Written.{IsFileNumber}
+use Rattle.scenario_json.specs.Write.{IsFileNumber}
 use Rattle.scenario_json.proofs.write.keeps_file_numbers.Given as goal
 
 abbrev pub invariant-loop-station : goal.invariant-loop-station

@@ -6,7 +6,7 @@ use Rattle.serde_json.specs.View.{view}
 use Rattle.serde_json.specs.Written.{compact_text, has_float}
 use Rattle.scenario_json.proofs.Readings.{json-is}
 use Rattle.scenario_json.proofs.WrittenLemmas.{data-plain, data-shallow, ok-both, text-reads}
-use Rattle.scenario_json.specs.Written.{IsFileNumber, data_for}
+use Rattle.scenario_json.specs.Write.{IsFileNumber, data_for}
 use Rattle.scenario_json.proofs.write.write_scenario.Goals as goal
 
 pub returns-clause-text : goal.returns-clause-text

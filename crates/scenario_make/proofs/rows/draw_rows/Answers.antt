@@ -1,5 +1,5 @@
 use Rattle.std.proofs.Common.{refl, arith}
-use Rattle.scenario_make.specs.MadeFiles.{behind_links}
+use Rattle.scenario_make.specs.GeneratedFiles.{behind_links}
 use Rattle.scenario_make.proofs.DrawLemmas.{behind-one, rows-one}
 use Rattle.scenario_make.proofs.rows.draw_rows.Goals as goal
 

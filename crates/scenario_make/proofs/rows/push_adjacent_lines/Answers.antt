@@ -1,6 +1,6 @@
 use Rattle.std.proofs.Common.{◌+◌, ◌∷◌, [], arith}
 use Rattle.std.specs.Prelude.{codes}
-use Rattle.scenario_make.specs.MadeFiles.{key_line}
+use Rattle.scenario_make.specs.GeneratedFiles.{key_line}
 use Rattle.scenario_make.proofs.RangeLemmas.{behind-more}
 use Rattle.scenario_make.proofs.rows.push_adjacent_lines.Goals as goal
 

@@ -1,7 +1,7 @@
 use Rattle.std.proofs.Common.{◌≡◌, ◌≤◌, ◌-◌, ◌∷◌, ◌++◌}
 use Rattle.std.specs.Prelude.{codes}
 use Rattle.std.specs.List.{flat_map, range_with_len}
-use Rattle.scenario_make.specs.MadeFiles.{key_line}
+use Rattle.scenario_make.specs.GeneratedFiles.{key_line}
 use Rattle.scenario_make.proofs.rows.push_link_lines.Given as goal
 
 abbrev pub invariant-loop-c : goal.invariant-loop-c

@@ -1,4 +1,4 @@
-use Rattle.target_seek.proofs.HalvingLemmas.{midway-goes_on}
+use Rattle.target_seek.proofs.BinarySearchLemmas.{midway-goes_on}
 use Rattle.target_seek.proofs.seek.seek_top.Goals as goal
 
 pub loop-top-preserved : goal.loop-top-preserved
@@ -6,9 +6,9 @@ loop-top-preserved g c =
     let mid = c.loop-top.invariant in
     midway-goes_on (g.T.TopTest.base c.args.test.now) (g.T.TopTest.base c.loop-top.test) (g.T.TopTest.base c.ask.new.self)
     (g.T.TopTest.asked c.args.test.now) (g.T.TopTest.asked c.loop-top.test) (g.T.TopTest.asked c.ask.new.self)
-    c.args.first c.args.last c.loop-top.search c.told-search.result c.in-Some.top c.in_ok-answer.answer mid
+    c.args.first c.args.last c.loop-top.search c.with_top_answer-search.result c.in-Some.top c.in_ok-answer.answer mid
     c.in_ok-answer.ensures.base c.in_ok-answer.ensures.asked c.in_ok-answer.ensures.truth
-    (c.told-search.ensures.searching c.args.first c.args.last mid.more c.in-Some.top mid.searching (cc))
+    (c.with_top_answer-search.ensures.searching c.args.first c.args.last mid.more c.in-Some.top mid.searching (cc))
 
 pub returns-clause-asked : goal.returns-clause-asked
 returns-clause-asked g c =

@@ -1,7 +1,7 @@
 use Rattle.std.proofs.Common.{◌≡◌, ◌≤◌, true, take}
 use Rattle.std.specs.Str.{all_ascii_digits}
 use Rattle.std.specs.Str.Parse.{digits_value}
-use Rattle.lrat_text.specs.LogText.{greatest}
+use Rattle.lrat_text.specs.Write.{greatest}
 use Rattle.transcript_text.proofs.log_field.digits_at.Given as goal
 
 abbrev pub invariant-loop-i : goal.invariant-loop-i

@@ -14,19 +14,19 @@ use Rattle.transcript_text.proofs.test_set.test_set.Goals as goal
 pub invariant_of-on_air : goal.invariant_of-on_air
 invariant_of-on_air c = record {
   ascending = rw c.as_slice.ensures (ascending-from (facilities c.args.sc.now) c.requires.ascend);
-  each = rw (c.as_slice.ensures, c.standings.ensures) c.requires.stations;
+  each = rw (c.as_slice.ensures, c.station_statuses.ensures) c.requires.stations;
 }
 
 pub component_among-requires : goal.component_among-requires
 component_among-requires c =
-    on_air-ascend (map (λ (x : Station). x.id) c.as_slice.result.now) c.standings.result.now (rw c.as_slice.ensures (ascending-from (facilities c.args.sc.now) c.requires.ascend))
+    on_air-ascend (map (λ (x : Station). x.id) c.as_slice.result.now) c.station_statuses.result.now (rw c.as_slice.ensures (ascending-from (facilities c.args.sc.now) c.requires.ascend))
 
 pub returns-clause-set : goal.returns-clause-set
 returns-clause-set c =
     let sc = c.args.sc.now in
     let book = c.args.book.now in
-    let standings = c.args.clock.now.standings in
+    let station_statuses = c.args.clock.now.station_statuses in
     let station = c.args.station in
-    let same : component book (with_station (on_air_by (map (λ (x : Station). x.id) c.as_slice.result.now) c.standings.result.now) station) station ≡ component book (with_station (on_air_by (facilities sc) standings) station) station =
-    λ i. component book (with_station (on_air_by (map (λ (x : Station). x.id) (c.as_slice.ensures i)) (c.standings.ensures i)) station) station in
-    IfOk-weaker c.component_among.result _ _ (λ set is. found-set sc book standings station set.items c.requires.ascend c.requires.known (is ∙ same)) c.component_among.ensures.component
+    let same : component book (with_station (on_air_by (map (λ (x : Station). x.id) c.as_slice.result.now) c.station_statuses.result.now) station) station ≡ component book (with_station (on_air_by (facilities sc) station_statuses) station) station =
+    λ i. component book (with_station (on_air_by (map (λ (x : Station). x.id) (c.as_slice.ensures i)) (c.station_statuses.ensures i)) station) station in
+    IfOk-weaker c.component_among.result _ _ (λ set is. found-set sc book station_statuses station set.items c.requires.ascend c.requires.known (is ∙ same)) c.component_among.ensures.component

@@ -19,16 +19,16 @@ push_step-requires-clause-writable c =
     writable-at c.args.rec.now.scenario c.args.book.now (after_start c.args.rec.now.scenario c.args.rec.now.order c.args.rec.now.start) c.args.rec.now.steps c.as_slice-step-items.result.now c.loop-step.step-index c.step-item.result c.requires.limits carried.shown c.as_slice-step-items.ensures c.loop-step-test.true c.step-item.is
 
 pub log_clauses-requires-clause-stations : goal.log_clauses-requires-clause-stations
-log_clauses-requires-clause-stations c = length-standings c.loop-step.invariant.clock.standings
+log_clauses-requires-clause-stations c = length-standings c.loop-step.invariant.clock.station_statuses
 
 pub settle-requires-clause-stations : goal.settle-requires-clause-stations
-settle-requires-clause-stations c = length-standings c.loop-step.invariant.clock.standings
+settle-requires-clause-stations c = length-standings c.loop-step.invariant.clock.station_statuses
 
 pub settle-requires-clause-active : goal.settle-requires-clause-active
 settle-requires-clause-active c =
     let n = next (goal.at.settle-requires-clause-active c).After-place_of in
     let place = rw c.as_slice.ensures at c.in-Some.ensures in
-    next-active c.in-Some.i n c.loop-step.invariant.clock.standings place.0 place.1
+    next-active c.in-Some.i n c.loop-step.invariant.clock.station_statuses place.0 place.1
 
 pub settle-requires-clause-unpaid : goal.settle-requires-clause-unpaid
 settle-requires-clause-unpaid c =
@@ -58,7 +58,7 @@ loop-step-preserved c =
     record {
       clock = rw (c.settle.ensures, c.shows_room.ensures, place.1) (next-clock c.in-Some.i n c.requires.limits.ascend c.loop-step.invariant.clock place.0 place.1);
       text =
-          let firsts = c.in_ok-clauses-in-Some.ensures.count clock c.loop-step.invariant.clock.standings in
+          let firsts = c.in_ok-clauses-in-Some.ensures.count clock c.loop-step.invariant.clock.station_statuses in
           rw (c.in_ok-push_step-in-Some.ensures, firsts)
           (steps-more sc c.args.book.now c.loop-step.text.items clock _ k x steps _ c.loop-step-test.true c.step-item.is (ap (λ s. s.clock) n.moves) c.loop-step.invariant.text);
     }

@@ -4,5 +4,5 @@ use Rattle.walk_repack.proofs.steps.run.Goals as goal
 
 pub returns-clause-outcome : goal.returns-clause-outcome
 returns-clause-outcome g c =
-    let whole : length c.moves.course.moves ≡ c.args.budget = omega arith in
-    subst (λ n. WalkEndIs c.moves.course n c.args.number (g.P.Poll.last c.moves.poll) c.last_look.result) whole (c.last_look.ensures c.args.number (g.P.Poll.last c.moves.poll))
+    let whole : length c.moves.walk_state.moves ≡ c.args.budget = omega arith in
+    subst (λ n. WalkEndIs c.moves.walk_state n c.args.number (g.P.Poll.last c.moves.poll) c.final_status.result) whole (c.final_status.ensures c.args.number (g.P.Poll.last c.moves.poll))

@@ -1,5 +1,5 @@
 use Rattle.std.proofs.Common.{List, ℕ, sym, subst}
-use Rattle.walk_repack.specs.Course.{AreOnDomains}
+use Rattle.walk_repack.specs.WalkState.{AreOnDomains}
 use Rattle.cert_types.proofs.QueryLaws.{query-task}
 use Rattle.walk_repack.proofs.AnswerLemmas.{query-starts}
 use Rattle.walk_repack.proofs.walk.begin.Goals as goal

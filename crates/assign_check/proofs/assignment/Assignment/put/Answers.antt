@@ -1,7 +1,7 @@
 use Rattle.std.proofs.Common.{◌∙◌, ap, ap₂, sym, subst}
 use Rattle.pack_defs.specs.ChannelMap.{IsAscending}
 use Rattle.pack_defs.proofs.MapLemmas.{put-ascending}
-use Rattle.assign_check.specs.Violations.{violations_of}
+use Rattle.assign_check.specs.Assignment.{violations_of}
 use Rattle.assign_check.proofs.Counts.{at-most, counted-moved}
 use Rattle.assign_check.proofs.assignment.Assignment.put.Goals as goal
 

@@ -13,11 +13,11 @@ pub returns-clause-task : goal.returns-clause-task
 returns-clause-task c =
     let a = c.self.inside in
     subst (λ v. IfOk c.task.result (λ task. task ≡ task_of v.scenario v.book v.state)) c.self.view_is
-    (subst (λ o. IfOk c.task.result (λ task. task ≡ o)) (sym (task-noted a.clockwork.scenario a.clockwork.book a.clockwork.state a.notes.noted)) c.task.ensures.task)
+    (subst (λ o. IfOk c.task.result (λ task. task ≡ o)) (sym (task-noted a.query_session.scenario a.query_session.book a.query_session.state a.pending_receipts.noted)) c.task.ensures.task)
 
 pub returns-clause-checked : goal.returns-clause-checked
 returns-clause-checked c =
-    let w = c.self.inside.clockwork in
+    let w = c.self.inside.query_session in
     subst (λ v. IfOk c.task.result (λ task. MatchOption task ⊤ (IsTaskOf v.book))) c.self.view_is
     (IfOk-weaker c.task.result _ _ (λ task e. subst (λ o. MatchOption o ⊤ (IsTaskOf w.book)) (sym e) (task-ascends w.scenario w.book w.state c.self.invariant.replayed.auction)) c.task.ensures.task)
 

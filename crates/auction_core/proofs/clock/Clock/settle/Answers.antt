@@ -3,7 +3,7 @@ use Rattle.std.proofs.Common.{◌≤◌, ◌-◌, sym, subst, arith, set, None, 
 use Rattle.pack_defs.specs.declared.station.Station.{Station}
 use Rattle.pack_defs.specs.Scenario.{facilities}
 use Rattle.pack_defs.proofs.PriceLaws.{prices_rounds}
-use Rattle.auction_core.specs.declared.clock.Standing.TheVariants.{Frozen}
+use Rattle.auction_core.specs.declared.clock.StationStatus.TheVariants.{Frozen}
 use Rattle.auction_core.specs.Clock.{most_paid}
 use Rattle.auction_core.proofs.ClockLemmas.{facility_at, offer_at}
 use Rattle.auction_core.proofs.Paid.{frozen-view, offer_at_most}
@@ -28,4 +28,4 @@ returns c =
     let own = offer_at sc c.args.i (c.args.round - 1) none c.requires.limits.ascend c.requires.place in
     let id = facility_at sc c.args.i none c.requires.place in
     rw (c.if-fits.false, c.freeze.ensures, c.offer-price.ensures, c.as_slice.ensures, c.requires.schedule)
-    (sym (frozen-view (set c.args.self.now.standings c.args.i (Frozen c.args.round)) c.args.self.now.paid id own))
+    (sym (frozen-view (set c.args.self.now.station_statuses c.args.i (Frozen c.args.round)) c.args.self.now.paid id own))

@@ -15,10 +15,10 @@ pub returns-clause-within : goal.returns-clause-within
 returns-clause-within c =
     let schedule = c.self.inside.schedule.items in
     let places = c.self.inside.places.items in
-    (station-at c.args.self.now schedule places c.args.turn c.index.result.now _ (subst (λ (s : SetupView). IsSetup s schedule places) c.self.view_is c.self.invariant) c.requires (sym c.index.ensures)).0
+    (station-at c.args.self.now schedule places c.args.place_in_round c.index.result.now _ (subst (λ (s : SetupView). IsSetup s schedule places) c.self.view_is c.self.invariant) c.requires (sym c.index.ensures)).0
 
 pub returns-clause-station : goal.returns-clause-station
 returns-clause-station c =
     let schedule = c.self.inside.schedule.items in
     let places = c.self.inside.places.items in
-    (station-at c.args.self.now schedule places c.args.turn c.index.result.now _ (subst (λ (s : SetupView). IsSetup s schedule places) c.self.view_is c.self.invariant) c.requires (sym c.index.ensures)).1
+    (station-at c.args.self.now schedule places c.args.place_in_round c.index.result.now _ (subst (λ (s : SetupView). IsSetup s schedule places) c.self.view_is c.self.invariant) c.requires (sym c.index.ensures)).1

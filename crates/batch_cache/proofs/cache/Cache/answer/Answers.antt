@@ -1,6 +1,6 @@
 use Rattle.std.proofs.Common.{refl, sym, ◌∙◌}
 use Rattle.batch_cache.specs.Answering.{gives_fit, gives_refutation}
-use Rattle.batch_cache.specs.Looks.{fit_found}
+use Rattle.batch_cache.specs.KeptRefutation.{fit_found}
 use Rattle.batch_cache.proofs.AnswerLemmas.{found-fit-valid, found-refutation-valid, map-moved, refutation-moved}
 use Rattle.batch_cache.proofs.cache.Cache.answer.Goals as goal
 

@@ -1,5 +1,5 @@
 use Rattle.std.proofs.Common.{ℕ, List, ap, ◌∙◌}
-use Rattle.batch_cache.specs.Kept.{key_of}
+use Rattle.batch_cache.specs.Cache.{key_of}
 use Rattle.batch_cache.proofs.AnswerLemmas.{map-put}
 use Rattle.batch_cache.proofs.EntryLemmas.{put-cache}
 use Rattle.batch_cache.proofs.cache.Cache.put_map.Goals as goal

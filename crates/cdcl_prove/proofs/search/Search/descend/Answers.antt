@@ -3,7 +3,7 @@ use Rattle.clause_db.specs.Clauses.{Clauses}
 use Rattle.trail_prop.specs.Entries.{lits_of, level_of}
 use Rattle.trail_prop.specs.Trails.{TrailView}
 use Rattle.cdcl_prove.specs.Derivation.{clauses_of}
-use Rattle.cdcl_prove.specs.Picks.{PickIs}
+use Rattle.cdcl_prove.specs.Guide.{PickIs}
 use Rattle.cdcl_prove.proofs.SearchLemmas.{decision-smaller, trail-of}
 use Rattle.cdcl_prove.proofs.search.Search.descend.Goals as goal
 

@@ -1,6 +1,6 @@
 -- One more literal.
 use Rattle.std.proofs.Common.{◌∙◌, ap, refl}
-use Rattle.rup_check.specs.Known.{is_lit_within}
+use Rattle.rup_check.specs.KnownLiterals.{is_lit_within}
 use Rattle.cert_types.proofs.UseLemmas.{counted-end, counted-start, counted-step}
 use Rattle.cert_types.proofs.uses.Uses.count_all.Goals as goal
 

@@ -1,7 +1,7 @@
 -- The literals visited so far are counted.
 use Rattle.std.proofs.Common.{◌≡◌, ℕ, ◌-◌, ◌^◌, length, min, true}
 use Rattle.clause_db.specs.declared.lit.Lit.{Lit}
-use Rattle.rup_check.specs.Known.{is_lit_within}
+use Rattle.rup_check.specs.KnownLiterals.{is_lit_within}
 use Rattle.cert_types.specs.Uses.{count_of}
 use Rattle.cert_types.proofs.UseLemmas.{CountedSoFar}
 use Rattle.cert_types.proofs.uses.Uses.count_all.Given as goal

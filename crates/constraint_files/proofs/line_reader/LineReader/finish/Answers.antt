@@ -1,6 +1,6 @@
 use Rattle.std.proofs.Common.{◌∙◌, Ok, Err, ap, subst, sym}
 use Rattle.std.proofs.lemmas.Result.{err_from_is_err_and}
-use Rattle.constraint_files.specs.Pieces.{finished}
+use Rattle.constraint_files.specs.LineReader.{finished}
 use Rattle.constraint_files.specs.Reads.{Reads}
 use Rattle.constraint_files.proofs.PieceLemmas.{end-is, end-stops}
 use Rattle.constraint_files.proofs.line_reader.LineReader.finish.Goals as goal

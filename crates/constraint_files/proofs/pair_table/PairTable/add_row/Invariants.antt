@@ -1,5 +1,5 @@
 use Rattle.std.proofs.Common.{◌≡◌, drop, fold}
-use Rattle.constraint_files.specs.Rows.{with_other}
+use Rattle.constraint_files.specs.PairTable.{with_other}
 use Rattle.constraint_files.proofs.pair_table.PairTable.add_row.Given as goal
 
 abbrev pub invariant-loop-other : goal.invariant-loop-other

@@ -1,6 +1,6 @@
 use Rattle.std.proofs.Common.{arith, fold, length, sym}
 use Rattle.std.proofs.lemmas.Bool.{le-ltb}
-use Rattle.constraint_files.specs.Rows.{with_pair}
+use Rattle.constraint_files.specs.PairTable.{with_pair}
 use Rattle.constraint_files.proofs.PairOrder.{puts-few}
 use Rattle.constraint_files.proofs.pair_table.PairTable.has_too_many.Goals as goal
 

@@ -1,7 +1,7 @@
 use Rattle.std.proofs.Common.{◌∷◌, ◌∙◌, [], ℕ, List, ap, fold}
 use Rattle.std.proofs.lemmas.List.Sums.{fold-append}
 use Rattle.pack_defs.specs.declared.pair.Pair.{Pair}
-use Rattle.constraint_files.specs.Rows.{PairsView, with_pair}
+use Rattle.constraint_files.specs.PairTable.{PairsView, with_pair}
 use Rattle.constraint_files.proofs.pair_table.PairTable.put.Goals as goal
 
 abbrev seen_as : ℕ → ℕ → List Pair → PairsView

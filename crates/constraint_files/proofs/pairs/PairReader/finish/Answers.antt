@@ -1,6 +1,6 @@
 use Rattle.std.proofs.Common.{◌≡◌, ◌∙◌, Ok, ap, sym, subst}
 use Rattle.std.proofs.lemmas.Result.{err_from_is_err_and}
-use Rattle.constraint_files.specs.Rows.{ArePairs, PairsView}
+use Rattle.constraint_files.specs.PairTable.{ArePairs, PairsView}
 use Rattle.constraint_files.proofs.PieceLaws.{pairs-done, pairs-end, pairs-end-stops}
 use Rattle.constraint_files.proofs.pairs.PairReader.finish.Goals as goal
 
@@ -12,8 +12,8 @@ returns-in_err-finish c = λ bytes domains e.
 pub invariant_of-result : goal.invariant_of-result
 invariant_of-result c =
     let done = pairs-done c.self.inside.lines c.in_ok-finish.field-0 c.self.invariant c.in_ok-finish.ensures in
-    let same : c.in_ok-finish.field-0.told ≡ record { list = c.in_ok-list.list.items; self_pairs = c.in_ok-list.self_pairs; strangers = c.in_ok-list.strangers } = sym c.into_table-table.ensures ∙ sym c.in_ok-list.ensures in
-    let are = subst (λ (told : PairsView). ArePairs told.list) same done in
+    let same : c.in_ok-finish.field-0.pairs_view ≡ record { list = c.in_ok-list.list.items; self_pairs = c.in_ok-list.self_pairs; strangers = c.in_ok-list.strangers } = sym c.into_table-table.ensures ∙ sym c.in_ok-list.ensures in
+    let are = subst (λ (pairs_view : PairsView). ArePairs pairs_view.list) same done in
     record { ascend = are.ascend; of_two = are.of_two }
 
 pub returns : goal.returns

@@ -4,8 +4,8 @@ use Rattle.outside_io.specs.Memory.{FolderView}
 use Rattle.outside_io.proofs.FileLaws.{Puts-with_file}
 use Rattle.outside_io.proofs.memory_folder.MemoryFolderFolder.store.Goals as goal
 
-pub returns-clause-told : goal.returns-clause-told
-returns-clause-told c =
+pub returns-clause-modelled : goal.returns-clause-modelled
+returns-clause-modelled c =
     let name = c.args.name.now in
     let bytes = c.args.bytes.now in
     rw (c.in_ok-put.ensures.ok ∙ ap (λ (v : FolderView). with_file v.files name bytes) c.self.view_is)

@@ -8,7 +8,7 @@ loop-at-preserved c =
     let stored = c.in_default.ensures in
     record {
       stored = stores-more c.args.files.now c.loop-at.at _ _ _ _ c.loop-at-test.true c.loop-at.invariant.stored
-          (record { stores = stored.told; faults = stored.uncounted (λ e. cc e); steady = stored.steady });
+          (record { stores = stored.modelled; faults = stored.faults_unchanged (λ e. cc e); steady = stored.steady });
       left = stored.left ∙ c.loop-at.invariant.left;
       come = stored.come ∙ c.loop-at.invariant.come;
       most = stored.most ∙ c.loop-at.invariant.most;
@@ -20,10 +20,10 @@ returns-in-Err-clause-stopped c =
     rw (c.new.ensures.at, c.new.ensures.why)
     (stops-here c.args.files.now c.loop-at.at _ c.in-Err.why _ _ _ c.loop-at-test.true c.loop-at.invariant.stored
     (record {
-      stores = unstored.told;
+      stores = unstored.modelled;
       counted = unstored.counted;
       failed = λ e. unstored.failed (rw e refl);
-      uncounted = λ not. unstored.uncounted (λ e. not (cc e));
+      faults_unchanged = λ not. unstored.faults_unchanged (λ e. not (cc e));
       steady = unstored.steady;
-      surely = λ steady e. unstored.surely steady (rw e refl);
+      steady_never_fails = λ steady e. unstored.steady_never_fails steady (rw e refl);
     }))

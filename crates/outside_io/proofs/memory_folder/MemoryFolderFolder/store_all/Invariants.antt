@@ -1,6 +1,6 @@
 -- The files up to here are stored, in order, and the open file is unchanged.
 use Rattle.std.proofs.Common.{◌≡◌, Some, map, take}
-use Rattle.outside_io.specs.Groups.{AreAllStored, stored_file}
+use Rattle.outside_io.specs.StoreAll.{AreAllStored, stored_file}
 use Rattle.outside_io.proofs.GroupLaws.{memory_told}
 use Rattle.outside_io.proofs.memory_folder.MemoryFolderFolder.store_all.Given as goal
 

@@ -1,6 +1,6 @@
 -- The folder is not modelled, so only the count of faults says whether the files were stored.
 use Rattle.std.proofs.Common.{map, refl, rules}
-use Rattle.outside_io.specs.Groups.{stored_file}
+use Rattle.outside_io.specs.StoreAll.{stored_file}
 use Rattle.outside_io.proofs.GroupLaws.{all-untold, stops-untold}
 use Rattle.outside_io.proofs.real.RealFolderFolder.store_all.Goals as goal
 

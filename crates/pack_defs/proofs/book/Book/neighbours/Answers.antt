@@ -1,7 +1,7 @@
 use Rattle.std.proofs.Common.{◌≡◌, ◌∙◌, ap, subst, sym}
 use Rattle.pack_defs.specs.Book.{BookView, IsInOrder}
 use Rattle.pack_defs.specs.Lists.{is_in}
-use Rattle.pack_defs.specs.NeighbourLists.{lists_for}
+use Rattle.pack_defs.specs.Neighbours.{lists_for}
 use Rattle.pack_defs.proofs.NeighbourLemmas.{list-at, neighbours-are, neighbours-ascend, neighbours-none}
 use Rattle.pack_defs.proofs.book.Book.neighbours.Goals as goal
 

@@ -6,7 +6,7 @@ use Rattle.threshold_laws.proofs.rule.PlainRule.run.Goals as goal
 pub loop-round-init : goal.loop-round-init
 loop-round-init c =
     let sc = c.args.self.now.sc.now in
-    let bidders = c.in_ok-bidders.ensures ∙ ap (filter (λ s. not (declines sc s 0))) (c.deref.ensures.value ∙ c.in_ok-turns.ensures) in
+    let bidders = c.in_ok-bidders.ensures ∙ ap (filter (λ s. not (declines sc s 0))) (c.deref.ensures.value ∙ c.in_ok-round_order.ensures) in
     opened sc c.args.self.now.book.now c.args.order c.in_ok-bidders.bidders.items (length c.args.self.now.schedule.now) c.in_ok-clock.clock
     bidders (ap length c.args.self.now.priced) c.in_ok-clock.ensures
 

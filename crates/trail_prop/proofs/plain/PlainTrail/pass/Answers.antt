@@ -6,7 +6,7 @@ use Rattle.clause_db.specs.declared.lit.Lit.{Lit}
 use Rattle.trail_prop.specs.Open.{IsClauseSettled}
 use Rattle.trail_prop.specs.declared.entry.TrailEntry.{TrailEntry}
 use Rattle.trail_prop.specs.Entries.{lits_of, level_of, is_decision}
-use Rattle.trail_prop.specs.Passes.{PassKeeps}
+use Rattle.trail_prop.specs.Plain.{PassKeeps}
 use Rattle.trail_prop.specs.Trails.{Grows, TrailView}
 use Rattle.trail_prop.proofs.Trailing.{grows-trans, grows-push}
 use Rattle.trail_prop.proofs.plain.PlainTrail.pass.Goals as goal
@@ -48,13 +48,13 @@ after-forced start was now b moved at end e k d l n r m =
 
 pub loop-at-preserved : goal.loop-at-preserved
 loop-at-preserved c =
-    elim c.match-look_at.branch [
-      | in-Forces w ↦ after-forced c.args.self.now c.loop-at.self c.match-look_at.self c.loop-at.moved c.match-look_at.moved c.loop-at.at c.len-at-end.result (record { lit = w.in-Forces.lit; level = level_of c.loop-at.self.entries; reason = Some (c.loop-at.at + 1) }) c.loop-at.invariant refl refl (w.self-is ∙ w.force.ensures.pushed) (subst (λ (v : TrailView). length v.entries ≤ v.clauses.vars) (sym w.self-is) w.force.ensures.room) w.moved-is
+    elim c.match-clause_status_of.branch [
+      | in-Forces w ↦ after-forced c.args.self.now c.loop-at.self c.match-clause_status_of.self c.loop-at.moved c.match-clause_status_of.moved c.loop-at.at c.len-at-end.result (record { lit = w.in-Forces.lit; level = level_of c.loop-at.self.entries; reason = Some (c.loop-at.at + 1) }) c.loop-at.invariant refl refl (w.self-is ∙ w.force.ensures.pushed) (subst (λ (v : TrailView). length v.entries ≤ v.clauses.vars) (sym w.self-is) w.force.ensures.room) w.moved-is
       | in-Settled w ↦
           let at : c.loop-at.at + 1 - 1 ≡ c.loop-at.at = omega arith in
           let one : IsClauseSettled (lits_of c.self-in-loop-at.inside.assigned.entries) (get_or c.self-in-loop-at.inside.clauses.list c.loop-at.at []) =
           subst (λ (n : ℕ). IsClauseSettled (lits_of c.self-in-loop-at.inside.assigned.entries) (get_or c.self-in-loop-at.inside.clauses.list n [])) at (subst (λ (z : List Lit). IsClauseSettled (lits_of c.self-in-loop-at.inside.assigned.entries) z) c.get.ensures.at w.in-Settled.ensures) in
           let two : IsClauseSettled (lits_of c.loop-at.self.entries) (get_or c.loop-at.self.clauses.list c.loop-at.at []) =
           subst (λ (v : TrailView). IsClauseSettled (lits_of v.entries) (get_or v.clauses.list c.loop-at.at [])) c.self-in-loop-at.view_is one in
-          after-settled c.args.self.now c.loop-at.self c.match-look_at.self c.loop-at.moved c.match-look_at.moved c.loop-at.at c.len-at-end.result c.loop-at.invariant w.self-is w.moved-is two
+          after-settled c.args.self.now c.loop-at.self c.match-clause_status_of.self c.loop-at.moved c.match-clause_status_of.moved c.loop-at.at c.len-at-end.result c.loop-at.invariant w.self-is w.moved-is two
     ]

@@ -1,4 +1,4 @@
-use Rattle.trail_prop.specs.Passes.{PassKeeps}
+use Rattle.trail_prop.specs.Plain.{PassKeeps}
 use Rattle.trail_prop.proofs.plain.PlainTrail.pass.Given as goal
 
 abbrev pub invariant-loop-at : goal.invariant-loop-at

@@ -2,7 +2,7 @@ use Rattle.std.proofs.Common.{◌≡◌, ◌*◌, ℕ, List, [], replicate, leng
 use Rattle.std.proofs.lemmas.List.{length-replicate}
 use Rattle.trail_prop.specs.declared.watches.Watch.{Watch}
 use Rattle.trail_prop.specs.Trails.{TrailView}
-use Rattle.trail_prop.specs.Watching.{AllWait, IsWatchful}
+use Rattle.trail_prop.specs.Watching.{AllPending, IsWatchInvariant}
 use Rattle.trail_prop.proofs.Settling.{watchful-new}
 use Rattle.trail_prop.proofs.watching.Watching.new.Goals as goal
 
@@ -15,5 +15,5 @@ invariant_of-result c =
     let e : lists ≡ replicate (2 * clauses.vars) [] = c.in_ok-watches.ensures ∙ ap (λ (n : ℕ). replicate (2 * n) []) many in
     let n : length lists ≡ 2 * clauses.vars = ap (λ (z : List (List Watch)). length z) e ∙ length-replicate (2 * clauses.vars) [] in
     let p : length c.in_ok-places.places.items ≡ length clauses.list = c.in_ok-places.ensures ∙ c.len-count.ensures in
-    let w : AllWait (length clauses.list) c.in_ok-pending.pending.items = subst (λ (k : ℕ). AllWait k c.in_ok-pending.pending.items) c.len-count.ensures c.in_ok-pending.ensures in
-    subst (λ (t : TrailView). IsWatchful (record { trail = t; lists = lists; places = c.in_ok-places.places.items; pending = c.in_ok-pending.pending.items; head = 0 })) (sym c.in_ok-plain.ensures) (watchful-new clauses lists c.in_ok-places.places.items c.in_ok-pending.pending.items (omega arith) c.requires e n p w)
+    let w : AllPending (length clauses.list) c.in_ok-pending.pending.items = subst (λ (k : ℕ). AllPending k c.in_ok-pending.pending.items) c.len-count.ensures c.in_ok-pending.ensures in
+    subst (λ (t : TrailView). IsWatchInvariant (record { trail = t; lists = lists; places = c.in_ok-places.places.items; pending = c.in_ok-pending.pending.items; head = 0 })) (sym c.in_ok-plain.ensures) (watchful-new clauses lists c.in_ok-places.places.items c.in_ok-pending.pending.items (omega arith) c.requires e n p w)

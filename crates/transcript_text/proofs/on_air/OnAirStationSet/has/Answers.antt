@@ -4,7 +4,7 @@ use Rattle.std.proofs.lemmas.List.{length-map}
 use Rattle.std.proofs.lemmas.List.Sorted.{answers_always}
 use Rattle.pack_defs.proofs.Searches.{found-at, found-no_key}
 use Rattle.pack_defs.specs.declared.station.Station.{Station}
-use Rattle.auction_core.specs.declared.clock.Standing.TheVariants.{Active}
+use Rattle.auction_core.specs.declared.clock.StationStatus.TheVariants.{Active}
 use Rattle.transcript_text.proofs.OnAirLemmas.{on_air-at, on_air-none}
 use Rattle.transcript_text.proofs.on_air.OnAirStationSet.has.Goals as goal
 
@@ -19,10 +19,10 @@ returns-in-Ok c =
     let inside = c.in-Ok.ensures.bound in
     let by_id = c.in-Ok.ensures.position id_of (answers_always _ _ _ (λ f a r g called. search rules)) in
     let at = found-at id_of own.stations.now c.args.station c.in-Ok.i inside by_id in
-    c.is_on_air.ensures ∙ sym (on_air-at (map id_of own.stations.now) own.standings.now c.in-Ok.i c.args.station Active own.ascending (omega (arith, long, each)) (omega (arith, long, inside)) at)
+    c.is_on_air.ensures ∙ sym (on_air-at (map id_of own.stations.now) own.station_statuses.now c.in-Ok.i c.args.station Active own.ascending (omega (arith, long, each)) (omega (arith, long, inside)) at)
 
 pub returns-in-Err : goal.returns-in-Err
 returns-in-Err c =
     let own = c.args.self.now in
     let by_id = c.in-Err.ensures.position id_of (answers_always _ _ _ (λ f a r g called. search rules)) in
-    sym (on_air-none (map id_of own.stations.now) own.standings.now c.args.station (found-no_key id_of own.stations.now c.args.station _ c.in-Err.ensures.bound by_id own.ascending))
+    sym (on_air-none (map id_of own.stations.now) own.station_statuses.now c.args.station (found-no_key id_of own.stations.now c.args.station _ c.in-Err.ensures.bound by_id own.ascending))

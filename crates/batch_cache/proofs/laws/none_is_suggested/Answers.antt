@@ -1,5 +1,0 @@
-use Rattle.batch_cache.proofs.SuggestLaws.{none-to-answer}
-use Rattle.batch_cache.proofs.laws.none_is_suggested.Goals as goal
-
-pub returns : goal.returns
-returns c = λ view top task worker none book. none-to-answer view top task worker none book

@@ -1,4 +1,0 @@
-use Rattle.cdcl_prove.proofs.kept.ask.Given as goal
-
-abbrev pub invariant-loop : goal.invariant-loop
-invariant-loop g l = g.P.Poll.goes l.initial.poll l.poll

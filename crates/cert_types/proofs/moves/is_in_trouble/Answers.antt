@@ -1,9 +1,0 @@
-use Rattle.std.proofs.Common.{◌∙◌, ap, sym}
-use Rattle.cert_types.specs.Walks.{is_in_trouble}
-use Rattle.cert_types.proofs.WalkLemmas.{troubled-counted}
-use Rattle.cert_types.proofs.moves.is_in_trouble.Goals as goal
-
-pub returns : goal.returns
-returns c =
-    troubled-counted c.args.map.now.book c.args.map.now.entries c.args.station c.violations_of.result c.violations_of.ensures
-    ∙ ap (λ book. is_in_trouble book c.args.map.now.entries c.args.station) (sym c.requires)

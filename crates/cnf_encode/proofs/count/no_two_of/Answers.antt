@@ -1,6 +1,0 @@
-use Rattle.std.proofs.Common.{◌∙◌}
-use Rattle.cnf_encode.proofs.CountLemmas.{twos-half}
-use Rattle.cnf_encode.proofs.count.no_two_of.Goals as goal
-
-pub returns-clause-count : goal.returns-clause-count
-returns-clause-count c = λ variable. twos-half variable c.args.channels.now c.from-n.result (c.from-n.ensures ∙ c.count_of.ensures.count)

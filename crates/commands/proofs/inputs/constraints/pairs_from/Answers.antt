@@ -1,0 +1,28 @@
+use Rattle.std.proofs.Common.{[]}
+use Rattle.std.proofs.lemmas.Result.{err_from_is_err_and}
+use Rattle.constraint_files.specs.PairTable.{pairs_fed, pairs_of}
+use Rattle.commands.specs.Inputs.{file_of, rows_read}
+use Rattle.command_words.specs.declared.run_words.Input.TheVariants.{Rows}
+use Rattle.commands.proofs.FeedLemmas.{from-fails, from-ok, from-refused}
+use Rattle.commands.proofs.inputs.constraints.pairs_from.Goals as goal
+
+pub returns-in_err-feed_pairs-clause-modelled : goal.returns-in_err-feed_pairs-clause-modelled
+returns-in_err-feed_pairs-clause-modelled g c = λ files modelled.
+    let domains = c.args.domains.now in
+    let (bytes, held, left) = c.in_ok-begin.ensures.modelled files modelled in
+    let p = err_from_is_err_and c.from_residual-in_err-feed_pairs.result c.from_residual-in_err-feed_pairs.ensures.1 in
+    rw (p.1, p.2) (from-fails (g.F.Folder.modelled c.args.folder.now).steady (g.F.Folder.modelled c.begin.new.folder).steady (file_of files c.args.name.now Rows) (λ b. rows_read Rows (pairs_of b domains)) bytes (pairs_fed bytes domains) c.in_err-feed_pairs.field-0.0
+    c.begin.ensures.steady held (c.in_err-feed_pairs.ensures.modelled [] bytes domains left c.in-Ok.ensures))
+
+pub returns-in-Ok-finish-clause-modelled : goal.returns-in-Ok-finish-clause-modelled
+returns-in-Ok-finish-clause-modelled g c = λ files modelled.
+    let domains = c.args.domains.now in
+    let (bytes, held, left) = c.in_ok-begin.ensures.modelled files modelled in
+    from-ok Rows (file_of files c.args.name.now Rows) (λ b. pairs_of b domains) bytes c.in-Ok-finish.pairs held (c.in-Ok-finish.ensures bytes domains (c.in_ok-feed_pairs.ensures.modelled [] bytes domains left c.in-Ok.ensures))
+
+pub returns-in-Err-clause-modelled : goal.returns-in-Err-clause-modelled
+returns-in-Err-clause-modelled g c = λ files modelled.
+    let domains = c.args.domains.now in
+    let (bytes, held, left) = c.in_ok-begin.ensures.modelled files modelled in
+    from-refused (g.F.Folder.modelled c.args.folder.now).steady Rows (file_of files c.args.name.now Rows) (λ b. pairs_of b domains) bytes c.in-Err.why c.refused_by.result c.refused_by.ensures held
+    (c.in-Err.ensures bytes domains (c.in_ok-feed_pairs.ensures.modelled [] bytes domains left c.in-Ok.ensures))

@@ -1,0 +1,263 @@
+//! The interface of the search: a caller begins a query, and lets the searcher continue for some conflicts at a time.
+
+use crate::engine::Engine;
+use crate::grid::Grid;
+use crate::policy::{PATIENT, USUAL};
+use crate::query::QueryProgress;
+use crate::shortening::Shortening;
+use crate::suggestion::{Disproof, LogLength, Suggestion};
+use pack_defs::book::Book;
+use pack_defs::channel_map::ChannelMap;
+use std::alloc::{AllocError as NoMemory, Global};
+
+/// How far the searcher came with a query.
+#[derive(Debug, Drop)]
+pub enum Progress {
+    /// The query can continue.
+    Open,
+    /// The query has ended with this suggestion.
+    Ended(Suggestion),
+    /// The effort is spent.
+    Spent,
+    /// No query was begun, or the knowledge was about other stations than the query is. All of it is forgotten.
+    Lost,
+}
+
+/// A searcher for the queries of an auction, one after the other. It keeps what it learnt, provided that each query is about the
+/// stations on air, whose number only grows, and tested stations. For any other query, suggestions may be worthless.
+#[derive(Drop)]
+pub struct Searcher {
+    engine: Option<Engine>,
+    // The current search for a shorter log, and between two of these searches the engine of the last one.
+    shortening: Option<Shortening>,
+    group: Option<Engine>,
+    seed: u64,
+    logs: LogLength,
+    // The effort of each policy for each tested station, in conflicts, and the conflicts left to the current policy; whether that is
+    // the last policy.
+    effort: u32,
+    left: u32,
+    is_patient: bool,
+}
+
+impl Searcher {
+    /// Returns a searcher that knows nothing. The seed breaks ties in the order of decisions, so searchers with different seeds search
+    /// differently; seed 0 breaks ties by the variables' order.
+    pub fn new(seed: u64, logs: LogLength) -> Searcher {
+        Searcher {
+            engine: None,
+            shortening: None,
+            group: None,
+            seed,
+            logs,
+            effort: 0,
+            left: 0,
+            is_patient: false,
+        }
+    }
+
+    /// Forgets everything.
+    pub fn forget(&mut self) {
+        self.engine = None;
+        self.shortening = None;
+        self.group = None;
+    }
+
+    /// Begins a query: is there a map of exactly the stations of this ascending set that violates no pair of the book?
+    ///
+    /// The stations of the set that have no channel in the last map are tested. `from`, if given, is the change of a known fit of the
+    /// tested station, from which the search begins. For each tested station the search has `effort` conflicts, and as many again by
+    /// another policy. If it finds a log of more than `effort` lines, or a long one if short logs are wanted, it looks for a shorter
+    /// one.
+    ///
+    /// # Errors
+    /// Fails only if memory runs out. Then no query is begun, and the searcher can be used again.
+    pub fn begin(
+        &mut self,
+        alloc: Global,
+        book: &Book,
+        set: &[u32],
+        last: &ChannelMap,
+        from: Option<&ChannelMap>,
+        effort: u32,
+    ) -> Result<(), NoMemory> {
+        self.stop_shortening();
+        let mut engine = self.take_engine(alloc, book)?;
+        engine.begin_query(set, last, from)?;
+        self.engine = Some(engine);
+        self.effort = effort;
+        self.left = effort;
+        self.is_patient = false;
+        Ok(())
+    }
+
+    /// Continues the query, with the same set and last map, for at most this many conflicts.
+    ///
+    /// # Errors
+    /// Fails only if memory runs out. Then no query is begun any more, and the searcher can be used again.
+    pub fn continue_search(
+        &mut self,
+        alloc: Global,
+        set: &[u32],
+        last: &ChannelMap,
+        conflicts: u32,
+    ) -> Result<Progress, NoMemory> {
+        let Some(engine) = self.engine.take() else {
+            return Ok(Progress::Lost);
+        };
+        match self.shortening.take() {
+            Some(shortening) => self.shorten(alloc, engine, shortening, conflicts),
+            None => self.search(alloc, engine, set, last, conflicts),
+        }
+    }
+
+    // Continues the search for a fit or a disproof, for at most this many conflicts.
+    fn search(
+        &mut self,
+        alloc: Global,
+        mut engine: Engine,
+        set: &[u32],
+        last: &ChannelMap,
+        conflicts: u32,
+    ) -> Result<Progress, NoMemory> {
+        let conflicts = conflicts.min(self.left);
+        match engine.search(alloc, conflicts)? {
+            QueryProgress::Open => self.continue_open(engine, conflicts),
+            QueryProgress::Next => Ok(self.begin_next(engine)),
+            QueryProgress::Fits => self.suggest_fit(alloc, engine, set, last),
+            QueryProgress::Refuted { line } => self.suggest_unfit(alloc, engine, line),
+            QueryProgress::Lost => Ok(Progress::Lost),
+        }
+    }
+
+    // Keeps the search after this many conflicts, and switches to the next policy if the effort is spent.
+    fn continue_open(&mut self, mut engine: Engine, conflicts: u32) -> Result<Progress, NoMemory> {
+        self.left = self.left.saturating_sub(conflicts);
+        if self.left == 0 && !self.is_patient {
+            self.is_patient = true;
+            self.left = self.effort;
+            engine.restart_with_policy(PATIENT)?;
+        }
+        self.engine = Some(engine);
+        if self.left == 0 {
+            return Ok(Progress::Spent);
+        }
+        Ok(Progress::Open)
+    }
+
+    // Gives the next tested station the complete effort, by the first policy.
+    fn begin_next(&mut self, engine: Engine) -> Progress {
+        self.left = self.effort;
+        self.is_patient = false;
+        self.engine = Some(engine);
+        Progress::Open
+    }
+
+    // Suggests the fit that was found.
+    fn suggest_fit(
+        &mut self,
+        alloc: Global,
+        engine: Engine,
+        set: &[u32],
+        last: &ChannelMap,
+    ) -> Result<Progress, NoMemory> {
+        let Some(fit) = engine.fit(alloc, set, last)? else {
+            return Ok(Progress::Lost);
+        };
+        self.engine = Some(engine);
+        Ok(Progress::Ended(Suggestion::Fit(fit)))
+    }
+
+    // Suggests the disproof that ends with this line, unless a search for a shorter one is worthwhile.
+    fn suggest_unfit(
+        &mut self,
+        alloc: Global,
+        mut engine: Engine,
+        line: u32,
+    ) -> Result<Progress, NoMemory> {
+        engine.gather(alloc, line)?;
+        let lines = engine.cone.lines.len();
+        if Shortening::is_worth(lines, self.effort, self.logs) {
+            self.begin_shortening(alloc, engine)
+        } else {
+            self.suggest_gathered(alloc, engine)
+        }
+    }
+
+    // Suggests the gathered disproof.
+    fn suggest_gathered(&mut self, alloc: Global, engine: Engine) -> Result<Progress, NoMemory> {
+        let disproof = Disproof::of_cone(alloc, &engine)?;
+        self.engine = Some(engine);
+        Ok(Progress::Ended(Suggestion::Unfit(disproof)))
+    }
+
+    // Begins the search for a shorter disproof than the gathered one.
+    fn begin_shortening(&mut self, alloc: Global, engine: Engine) -> Result<Progress, NoMemory> {
+        let group = self.group.take();
+        let shortening = Shortening::begin(alloc, &engine, group, self.effort)?;
+        Ok(self.keep_shortening(engine, shortening))
+    }
+
+    // Keeps the search for a shorter disproof.
+    fn keep_shortening(&mut self, engine: Engine, shortening: Shortening) -> Progress {
+        self.engine = Some(engine);
+        self.shortening = Some(shortening);
+        Progress::Open
+    }
+
+    // Continues the search for a shorter disproof than the gathered one. If memory runs out, all knowledge is forgotten too.
+    fn shorten(
+        &mut self,
+        alloc: Global,
+        engine: Engine,
+        mut shortening: Shortening,
+        conflicts: u32,
+    ) -> Result<Progress, NoMemory> {
+        if shortening.continue_search(alloc, conflicts)? {
+            return self.suggest_shortest(alloc, engine, shortening);
+        }
+        Ok(self.keep_shortening(engine, shortening))
+    }
+
+    // Ends the search for a shorter disproof, and suggests the shortest one.
+    fn suggest_shortest(
+        &mut self,
+        alloc: Global,
+        engine: Engine,
+        shortening: Shortening,
+    ) -> Result<Progress, NoMemory> {
+        let (shorter, group) = shortening.into_ended();
+        self.group = Some(group);
+        match shorter {
+            Some(disproof) => Ok(self.suggest_shorter(engine, disproof)),
+            None => self.suggest_gathered(alloc, engine),
+        }
+    }
+
+    // Suggests a disproof that is shorter than the gathered one.
+    fn suggest_shorter(&mut self, engine: Engine, disproof: Disproof) -> Progress {
+        self.engine = Some(engine);
+        Progress::Ended(Suggestion::Unfit(disproof))
+    }
+
+    // Abandons an unfinished search for a shorter log, and keeps what it learnt.
+    fn stop_shortening(&mut self) {
+        if let Some(shortening) = self.shortening.take() {
+            let (_, group) = shortening.into_ended();
+            self.group = Some(group);
+        }
+    }
+
+    // Returns the kept engine if it may be of the book; otherwise a new one.
+    fn take_engine(&mut self, alloc: Global, book: &Book) -> Result<Engine, NoMemory> {
+        if let Some(engine) = self.engine.take() {
+            if engine.grid.may_be_of(book) {
+                return Ok(engine);
+            }
+        }
+        self.group = None;
+        let mut engine = Engine::new(alloc, Grid::of(alloc, book)?, USUAL)?;
+        engine.break_ties_by_chance(self.seed);
+        Ok(engine)
+    }
+}

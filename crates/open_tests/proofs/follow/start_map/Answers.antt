@@ -1,7 +1,0 @@
--- The stations of a scenario within the limits ascend.
-use Rattle.pack_defs.specs.Scenario.{facilities}
-use Rattle.pack_defs.proofs.Words.{ascending-from}
-use Rattle.open_tests.proofs.follow.start_map.Goals as goal
-
-pub none-requires : goal.none-requires
-none-requires c = rw c.as_slice.ensures (ascending-from (facilities c.args.sc.now) c.requires.ascend)

@@ -1,5 +1,0 @@
-pub mod Queries
-pub mod Settled
-pub mod Cut
-pub mod Settling
-pub mod Follow

@@ -1,5 +1,0 @@
-use Rattle.owner_line.proofs.OwnLineLemmas.{exits-by_lines}
-use Rattle.owner_line.proofs.laws.exits_by_its_lines.Goals as goal
-
-pub returns : goal.returns
-returns c = exits-by_lines

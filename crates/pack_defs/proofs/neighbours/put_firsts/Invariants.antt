@@ -1,6 +1,0 @@
-use Rattle.std.proofs.Common.{map, take}
-use Rattle.pack_defs.specs.NeighbourLists.{HasAlso}
-use Rattle.pack_defs.proofs.neighbours.put_firsts.Given as goal
-
-abbrev pub invariant-loop-p : goal.invariant-loop-p
-invariant-loop-p l = HasAlso l.fn.near.items (map (λ p. p.f) (take l.p-index l.pairs)) l.near.items

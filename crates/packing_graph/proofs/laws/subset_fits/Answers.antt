@@ -1,5 +1,0 @@
-use Rattle.pack_defs.proofs.FitsLaws.{part_fits}
-use Rattle.packing_graph.proofs.laws.subset_fits.Goals as goal
-
-pub returns : goal.returns
-returns c = λ book set part within fit. part_fits book set part within fit

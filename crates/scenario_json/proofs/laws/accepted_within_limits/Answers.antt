@@ -1,5 +1,0 @@
-use Rattle.scenario_json.proofs.Limits.{read-limits}
-use Rattle.scenario_json.proofs.laws.accepted_within_limits.Goals as goal
-
-pub returns : goal.returns
-returns c = read-limits

@@ -1,5 +1,0 @@
-use Rattle.scenario_json.proofs.Limits.{no-memory}
-use Rattle.scenario_json.proofs.laws.refusals_are_of_the_text.Goals as goal
-
-pub returns : goal.returns
-returns c = no-memory

@@ -1,5 +1,0 @@
-use Rattle.scenario_json.proofs.StartLemmas.{only-joined}
-use Rattle.scenario_json.proofs.laws.start_only_joins.Goals as goal
-
-pub returns : goal.returns
-returns c = only-joined

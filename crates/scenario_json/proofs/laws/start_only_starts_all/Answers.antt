@@ -1,5 +1,0 @@
-use Rattle.scenario_json.proofs.StartLemmas.{only-facilities, only-starts}
-use Rattle.scenario_json.proofs.laws.start_only_starts_all.Goals as goal
-
-pub returns : goal.returns
-returns c = record { stations = only-facilities; all = only-starts }

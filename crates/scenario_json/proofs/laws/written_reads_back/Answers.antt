@@ -1,5 +1,0 @@
-use Rattle.scenario_json.proofs.WrittenText.{written-reads}
-use Rattle.scenario_json.proofs.laws.written_reads_back.Goals as goal
-
-pub returns : goal.returns
-returns c = written-reads

@@ -1,5 +1,0 @@
-use Rattle.scenario_make.proofs.DomainReadings.{domains-read}
-use Rattle.scenario_make.proofs.laws.made_domains_are_read.Goals as goal
-
-pub returns : goal.returns
-returns c = domains-read

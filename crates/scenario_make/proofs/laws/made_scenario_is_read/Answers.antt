@@ -1,5 +1,0 @@
-use Rattle.scenario_make.proofs.ScenarioLemmas.{made-reads}
-use Rattle.scenario_make.proofs.laws.made_scenario_is_read.Goals as goal
-
-pub returns : goal.returns
-returns c = made-reads

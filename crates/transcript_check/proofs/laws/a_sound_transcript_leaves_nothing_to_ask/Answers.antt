@@ -1,8 +1,0 @@
-use Rattle.transcript_check.proofs.WholeLemmas.{none-more, none-other}
-use Rattle.transcript_check.proofs.laws.a_sound_transcript_leaves_nothing_to_ask.Goals as goal
-
-pub returns-clause-steps : goal.returns-clause-steps
-returns-clause-steps c = none-more
-
-pub returns-clause-same : goal.returns-clause-same
-returns-clause-same c = none-other

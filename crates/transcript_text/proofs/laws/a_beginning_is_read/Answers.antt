@@ -1,5 +1,0 @@
-use Rattle.transcript_text.proofs.PrefixLaws.{prefix-first}
-use Rattle.transcript_text.proofs.laws.a_beginning_is_read.Goals as goal
-
-pub returns : goal.returns
-returns c = prefix-first

@@ -1,6 +1,0 @@
-use Rattle.std.proofs.Common.{arith}
-use Rattle.transcript_text.proofs.PrefixSaid.{prefix-said}
-use Rattle.transcript_text.proofs.laws.a_text_begins_with_what_is_kept.Goals as goal
-
-pub returns : goal.returns
-returns c = λ sc book text kept few e. prefix-said sc book text kept (omega (arith, few)) e

@@ -1,6 +1,0 @@
-use Rattle.std.proofs.Common.{arith}
-use Rattle.transcript_text.proofs.TextSaid.{transcript-said}
-use Rattle.transcript_text.proofs.laws.a_transcript_has_one_text.Goals as goal
-
-pub returns : goal.returns
-returns c = λ sc book text t few e. transcript-said sc book text t (omega (arith, few)) e

@@ -1,6 +1,0 @@
-use Rattle.std.proofs.Common.{◌≡◌, ◌++◌, decimal, map, take}
-use Rattle.lrat_text.specs.LogText.{spaced}
-use Rattle.transcript_text.proofs.parts.push_subset.Given as goal
-
-abbrev pub invariant-loop-s : goal.invariant-loop-s
-invariant-loop-s l = l.text.items ≡ l.initial.text.items ++ spaced (map decimal (take l.s-index l.subset))

@@ -1,0 +1,10 @@
+pub mod AlikeLemmas
+pub mod CutLemmas
+pub mod RecordLemmas
+pub mod ReplacedLemmas
+pub mod RowLemmas
+pub mod SettledLemmas
+pub mod SettleLemmas
+pub mod TaskSets
+pub mod StepReplayLemmas
+pub mod TaskLemmas

@@ -1,0 +1,5 @@
+pub mod Queries
+pub mod Settled
+pub mod Cut
+pub mod Settling
+pub mod StepReplay

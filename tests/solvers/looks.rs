@@ -1,4 +1,0 @@
-//! Tests of `first_looks`.
-
-mod samples;
-mod tests;

@@ -1,0 +1,4 @@
+//! Tests of `quick_fits`.
+
+mod samples;
+mod tests;

@@ -1,5 +1,0 @@
-//! Tests of `open_tests`.
-
-mod replace_tests;
-mod samples;
-mod task_tests;

@@ -1,0 +1,5 @@
+//! Tests of `undecided_tests`.
+
+mod replace_tests;
+mod samples;
+mod task_tests;
