@@ -94,7 +94,7 @@ module _ (files new : List StoredFile) (names : BatchNames) where
 
 -- ---- what stopped the reading
 
-stop-statuses : (stop : BatchStop) (before after : Outside) (status : ℕ) → ExplainsStop stop before.held after.held before.cuts after.cuts status → IsTrue (is_in (3 ∷ 5 ∷ 8 ∷ []) status)
+stop-statuses : (stop : BatchStop) (before after : Outside) (status : ℕ) → ExplainsStop stop before.held after.held before.sink_faults after.sink_faults status → IsTrue (is_in (3 ∷ 5 ∷ 8 ∷ []) status)
 stop-statuses (Unread own (CannotRead input)) before after status e = one-of (3 ∷ 5 ∷ 8 ∷ []) status 3 e.0 refl
 stop-statuses (Unread own (Refused why)) before after status e = one-of (3 ∷ 5 ∷ 8 ∷ []) status 5 e.0 refl
 stop-statuses (Unread own NoMemory) before after status e = one-of (3 ∷ 5 ∷ 8 ∷ []) status 8 e.0 refl
@@ -234,13 +234,13 @@ module _ (names : BatchNames) (before after : Outside) (status : ℕ) (batch : L
           })
       go (OutOfRoom x eight part said) = absurd (omega arith)
 
-  batch-unwritten : Came → status ≡ 4 → HasRisen before.faults after.faults ⊎ HasRisen before.cuts after.cuts
+  batch-unwritten : Came → status ≡ 4 → HasRisen before.faults after.faults ⊎ HasRisen before.sink_faults after.sink_faults
   batch-unwritten way four = go r.ended
     where
       r : IsReached
       r = reached-at way (one-of (0 ∷ 1 ∷ 4 ∷ 11 ∷ []) status 4 four refl)
 
-      go : Ended (batch_texts r.held batch) (status_lines r.held.lines batch) (batch_status batch) before after status → HasRisen before.faults after.faults ⊎ HasRisen before.cuts after.cuts
+      go : Ended (batch_texts r.held batch) (status_lines r.held.lines batch) (batch_status batch) before after status → HasRisen before.faults after.faults ⊎ HasRisen before.sink_faults after.sink_faults
       go (Both is all writes) = absurd (never 4 is four refl)
       go (NotSaid at all rises less said) = inr rises
       go (NotStored x at part rises unsteady said) = inl rises
@@ -282,7 +282,7 @@ module _ (names : BatchNames) (before after : Outside) (status : ℕ) (batch : L
   batch-memory : Came → status ≡ 8 → IsLinePrinted before after memory_line
   batch-memory (Stopped s none) eight = by s.stop s.explains
     where
-      by : (stop : BatchStop) → ExplainsStop stop before.held after.held before.cuts after.cuts status → IsLinePrinted before after memory_line
+      by : (stop : BatchStop) → ExplainsStop stop before.held after.held before.sink_faults after.sink_faults status → IsLinePrinted before after memory_line
       by (Unread own (CannotRead input)) e = let three = e.0 in absurd (omega arith)
       by (Unread own (Refused why)) e = let five = e.0 in absurd (omega arith)
       by (Unread own NoMemory) e = e.1
@@ -302,7 +302,7 @@ module _ (names : BatchNames) (before after : Outside) (status : ℕ) (batch : L
       (stop : BatchStop) × IsRefusing stop × (batch_of files names ≡ Err stop) × IsLinePrinted before after (refused_line stop)
   batch-refused files (Stopped s none) modelled five = by s.stop (s.modelled files modelled) s.explains
     where
-      by : (stop : BatchStop) → StopsAsHeld before.steady (batch_of files names) stop → ExplainsStop stop before.held after.held before.cuts after.cuts status →
+      by : (stop : BatchStop) → StopsAsHeld before.steady (batch_of files names) stop → ExplainsStop stop before.held after.held before.sink_faults after.sink_faults status →
           (stop : BatchStop) × IsRefusing stop × (batch_of files names ≡ Err stop) × IsLinePrinted before after (refused_line stop)
       by (Unread own (CannotRead input)) h e = let three = e.0 in absurd (omega arith)
       by (Unread own (Refused why)) h e = (Unread own (Refused why), tt, h, e.1)
@@ -317,7 +317,7 @@ module _ (names : BatchNames) (before after : Outside) (status : ℕ) (batch : L
       other : (own : InputNames) (input : Input) → stop ≡ Unread own (CannotRead input) → ⊥
       other own input same = subst IsRefusing same refusing
 
-      by : (own : BatchStop) → StopsAsHeld before.steady (batch_of files names) own → ExplainsStop own before.held after.held before.cuts after.cuts status → IsStatusOr 5 before status
+      by : (own : BatchStop) → StopsAsHeld before.steady (batch_of files names) own → ExplainsStop own before.held after.held before.sink_faults after.sink_faults status → IsStatusOr 5 before status
       by (Unread own (CannotRead input)) h e = inr (inr (e.0, λ steady. other own input (same-stop stop (Unread own (CannotRead input)) (sym is ∙ h steady))))
       by (Unread own (Refused why)) h e = inl e.0
       by (Unread own NoMemory) h e = inr (inl e.0)
@@ -332,7 +332,7 @@ module _ (names : BatchNames) (before after : Outside) (status : ℕ) (batch : L
       risen : (input : Input) → CountsFault {A = Inputs} before.faults after.faults (Err (CannotRead input)) → HasRisen before.faults after.faults
       risen input c = c.rises
 
-      by : (stop : BatchStop) → StopsUnder (IsUnderList names before) stop → CountsStop before.faults after.faults stop → ExplainsStop stop before.held after.held before.cuts after.cuts status →
+      by : (stop : BatchStop) → StopsUnder (IsUnderList names before) stop → CountsStop before.faults after.faults stop → ExplainsStop stop before.held after.held before.sink_faults after.sink_faults status →
           HasRisen before.faults after.faults × ((own : InputNames) × (input : Input) × IsUnderList names before own × IsLinePrinted before after (unread_line (name_of own input)))
       by (Unread own (CannotRead input)) under c e = (risen input c, (own, input, under, e.1))
       by (Unread own (Refused why)) under c e = let five = e.0 in absurd (omega arith)
@@ -357,7 +357,7 @@ module _ (names : BatchNames) (before after : Outside) (status : ℕ) (batch : L
       another : (name : List ℕ) → Twice name ≡ Unread own (CannotRead input) → ⊥
       another name e = cc
 
-      by : (stop : BatchStop) → StopsAsHeld before.steady (batch_of files names) stop → ExplainsStop stop before.held after.held before.cuts after.cuts status →
+      by : (stop : BatchStop) → StopsAsHeld before.steady (batch_of files names) stop → ExplainsStop stop before.held after.held before.sink_faults after.sink_faults status →
           (status ≡ 8) ⊎ ((status ≡ 3) × IsLinePrinted before after (unread_line (name_of own input)))
       by (Unread at (CannotRead i)) h e = inr (e.0, subst (λ z. IsLinePrinted before after (unread_line z)) (same-line at i (same-stop (Unread at (CannotRead i)) (Unread own (CannotRead input)) (sym (h steady) ∙ is))) e.1)
       by (Unread at (Refused why)) h e = absurd (other at why (same-stop (Unread at (Refused why)) (Unread own (CannotRead input)) (sym h ∙ is)))
@@ -370,7 +370,7 @@ module _ (names : BatchNames) (before after : Outside) (status : ℕ) (batch : L
   stopped-held : (files : List StoredFile) (held : HeldBatch) (n : ℕ) → IsBatchStopped names before after status → before.files ≡ Some files → batch_of files names ≡ Ok held → IsStatusOr n before status
   stopped-held files held n s modelled is = by s.stop (s.modelled files modelled) s.explains
     where
-      by : (stop : BatchStop) → StopsAsHeld before.steady (batch_of files names) stop → ExplainsStop stop before.held after.held before.cuts after.cuts status → IsStatusOr n before status
+      by : (stop : BatchStop) → StopsAsHeld before.steady (batch_of files names) stop → ExplainsStop stop before.held after.held before.sink_faults after.sink_faults status → IsStatusOr n before status
       by (Unread at (CannotRead i)) h e = inr (inr (e.0, λ steady. not-both held (Unread at (CannotRead i)) (sym is ∙ h steady)))
       by (Unread at (Refused why)) h e = absurd (not-both held (Unread at (Refused why)) (sym is ∙ h))
       by (Unread at NoMemory) h e = inr (inl e.0)
@@ -379,7 +379,7 @@ module _ (names : BatchNames) (before after : Outside) (status : ℕ) (batch : L
   batch-read : (files : List StoredFile) → Came → before.files ≡ Some files → before.steady ≡ true → ((own : InputNames) (input : Input) → batch_of files names ≢ Err (Unread own (CannotRead input))) → status ≢ 3
   batch-read files (Stopped s none) modelled steady there = λ three. by s.stop (s.modelled files modelled) s.explains three
     where
-      by : (stop : BatchStop) → StopsAsHeld before.steady (batch_of files names) stop → ExplainsStop stop before.held after.held before.cuts after.cuts status → status ≡ 3 → ⊥
+      by : (stop : BatchStop) → StopsAsHeld before.steady (batch_of files names) stop → ExplainsStop stop before.held after.held before.sink_faults after.sink_faults status → status ≡ 3 → ⊥
       by (Unread at (CannotRead i)) h e three = there at i (h steady)
       by (Unread at (Refused why)) h e three = let five = e.0 in omega arith
       by (Unread at NoMemory) h e three = let eight = e.0 in omega arith

@@ -59,7 +59,7 @@ module _ (names : InputNames) (before after : Outside) (status : ℕ) (found : O
   check-surely files (CountsCut inputs are four none rises less said same) modelled room = let enough = room inputs (are files modelled) in absurd (omega arith)
 
   pub check-cut : (files : List StoredFile) → CheckEnds names before after status found → before.files ≡ Some files → status ≡ 4 →
-      (inputs : Inputs) × (inputs_of files names ≡ Ok inputs) × HasRisen before.cuts after.cuts × IsLinePrinted before after (counts_text inputs)
+      (inputs : Inputs) × (inputs_of files names ≡ Ok inputs) × HasRisen before.sink_faults after.sink_faults × IsLinePrinted before after (counts_text inputs)
   check-cut files (CheckStopped s none) modelled four = absurd (off (3 ∷ 5 ∷ 8 ∷ []) status 4 (stopped-statuses names before after status s) four refl)
   check-cut files (CheckOutOfMemory s) modelled four = let eight = s.status_is in absurd (omega arith)
   check-cut files (Counted inputs are zero none writes same) modelled four = absurd (omega arith)
@@ -77,7 +77,7 @@ module _ (names : InputNames) (before after : Outside) (status : ℕ) (found : O
   check-unread (Counted inputs are zero none writes same) three = absurd (omega arith)
   check-unread (CountsCut inputs are four none rises less said same) three = absurd (omega arith)
 
-  pub check-unwritten : CheckEnds names before after status found → status ≡ 4 → HasRisen before.faults after.faults ⊎ HasRisen before.cuts after.cuts
+  pub check-unwritten : CheckEnds names before after status found → status ≡ 4 → HasRisen before.faults after.faults ⊎ HasRisen before.sink_faults after.sink_faults
   check-unwritten (CheckStopped s none) four = absurd (off (3 ∷ 5 ∷ 8 ∷ []) status 4 (stopped-statuses names before after status s) four refl)
   check-unwritten (CheckOutOfMemory s) four = let eight = s.status_is in absurd (omega arith)
   check-unwritten (Counted inputs are zero none writes same) four = absurd (omega arith)

@@ -458,7 +458,7 @@ module _ (names : ImportNames) (before after : Outside) (status : ℕ) (found : 
   import-missing_log files s (NotSettled inputs rec log own o at held e ten none said same) modelled steady f gone = absurd (no-text log (bytes_of files names.proof) gone (held files modelled).0)
   import-missing_log files s (Settled inputs rec log new o at held ok own kept some d) modelled steady f gone = absurd (no-text log (bytes_of files names.proof) gone (held files modelled).0)
 
-  pub import-unwritten : ImportEnds names before after status found → status ≡ 4 → HasRisen before.faults after.faults ⊎ HasRisen before.cuts after.cuts
+  pub import-unwritten : ImportEnds names before after status found → status ≡ 4 → HasRisen before.faults after.faults ⊎ HasRisen before.sink_faults after.sink_faults
   import-unwritten (NothingShown end none) four = absurd (off (3 ∷ 5 ∷ 8 ∷ 9 ∷ []) status 4 (unshown-statuses names.shown before after status found end none) four refl)
   import-unwritten (ImportOutOfMemory s) four = let eight = s.status_is in absurd (omega arith)
   import-unwritten (NoOpenStep inputs rec fault s is ten none said same) four = absurd (omega arith)
@@ -466,7 +466,7 @@ module _ (names : ImportNames) (before after : Outside) (status : ℕ) (found : 
   import-unwritten (NotSettled inputs rec log fault s is held err ten none said same) four = absurd (omega arith)
   import-unwritten (Settled inputs rec log new s is held ok own kept some d) four = go (ended inputs new d)
     where
-      go : Ended (import_texts names inputs new) (summary_in new.order inputs (undecided_of new.steps)) (done_status (undecided_of new.steps)) before after status → HasRisen before.faults after.faults ⊎ HasRisen before.cuts after.cuts
+      go : Ended (import_texts names inputs new) (summary_in new.order inputs (undecided_of new.steps)) (done_status (undecided_of new.steps)) before after status → HasRisen before.faults after.faults ⊎ HasRisen before.sink_faults after.sink_faults
       go (Both done all writes) = absurd (never (undecided_of new.steps) status 4 done four refl)
       go (NotSaid is_four all rises less said) = inr rises
       go (NotStored y is_four part rises unsteady said) = inl rises

@@ -29,14 +29,14 @@ use Rattle.commands.proofs.MessageLemmas.{rises-before}
 record IsBehind (before between : Outside) : Type 0 where
   pub steady : between.steady ≡ before.steady
   pub held : between.held ≡ before.held
-  pub cuts : between.cuts ≡ before.cuts
+  pub sink_faults : between.sink_faults ≡ before.sink_faults
   pub sure : between.sure ≡ before.sure
 
 behind : (xs : List NamedText) (before between : Outside) → AreAllStored xs before between → IsBehind before between
 behind [] before between same = record {
   steady = ap (λ (o : Outside). o.steady) same;
   held = ap (λ (o : Outside). o.held) same;
-  cuts = ap (λ (o : Outside). o.cuts) same;
+  sink_faults = ap (λ (o : Outside). o.sink_faults) same;
   sure = ap (λ (o : Outside). o.sure) same;
 }
 behind (x ∷ xs) before between d =
@@ -45,7 +45,7 @@ behind (x ∷ xs) before between d =
     record {
       steady = rest.steady ∙ s.steady;
       held = rest.held ∙ s.held;
-      cuts = rest.cuts ∙ s.cuts;
+      sink_faults = rest.sink_faults ∙ s.sink_faults;
       sure = rest.sure ∙ s.sure;
     }
 
@@ -61,9 +61,9 @@ data Stopped (xs : List NamedText) (before after : Outside) (status : ℕ) : Typ
 
 stopped-more : (x : NamedText) (xs : List NamedText) (before next after : Outside) (status : ℕ) → IsStored x before next → Stopped xs next after status → Stopped (x ∷ xs) before after status
 stopped-more x xs before next after status s (Failing y four part rises unsteady said) =
-    Failing y four (up-more x y xs before next after s part) (rises-before before.faults next.faults after.faults s.faults rises) (λ steady. unsteady (s.steady ∙ steady)) (rw (s.held, s.cuts) at said)
+    Failing y four (up-more x y xs before next after s part) (rises-before before.faults next.faults after.faults s.faults rises) (λ steady. unsteady (s.steady ∙ steady)) (rw (s.held, s.sink_faults) at said)
 stopped-more x xs before next after status s (Starving y eight part said) =
-    Starving y eight (up-more x y xs before next after s part) (rw (s.held, s.cuts) at said)
+    Starving y eight (up-more x y xs before next after s part) (rw (s.held, s.sink_faults) at said)
 
 stopped-of : (xs : List NamedText) (before after : Outside) (status : ℕ) → StopsAtOne xs before after status → Stopped xs before after status
 stopped-of [] before after status none = absurd none
@@ -91,7 +91,7 @@ pub data Reached (names : MakeNames) (before after : Outside) (status : ℕ) (fo
   AllStarved : status ≡ 8 → found ≡ None → MakesAll names before after → IsLinePrinted before after memory_line → Reached names before after status found
   Summed : (made : IsMakeRun names found) → MakesAll names before after → status ≡ done_status (undecided_of made.rec.steps) →
       Writes before.held after.held (make_summary made) (Ok tt) → Reached names before after status found
-  Unsummed : (made : IsMakeRun names found) → MakesAll names before after → status ≡ 4 → HasRisen before.cuts after.cuts →
+  Unsummed : (made : IsMakeRun names found) → MakesAll names before after → status ≡ 4 → HasRisen before.sink_faults after.sink_faults →
       before.sure < length (make_summary made) → IsLinePrinted before after (make_summary made) → Reached names before after status found
 
 abbrev made-run : (names : MakeNames) (found : Option Record) (rec : Record) (summary : List ℕ) → HasRun (make_inputs names.seed names.size) rec summary → found ≡ Some rec → IsMakeRun names found
@@ -122,7 +122,7 @@ module _ (names : MakeNames) (before after : Outside) (status : ℕ) (found : Op
   reached (MakeStopped stops none) once = from-stopped (stopped-of (make_texts names) before after status stops) none once
   reached (AuctionOutOfMemory between stored s) once =
       let b = behind (make_texts names) before between stored in
-      AllStarved s.status_is s.found_is (all-made between stored s.files once) (rw (b.held, b.cuts) at s.line)
+      AllStarved s.status_is s.found_is (all-made between stored s.files once) (rw (b.held, b.sink_faults) at s.line)
   reached (MakeResult between rec summary stored run kept (Written is same writes)) once =
       let b = behind (make_texts names) before between stored in
       Summed (made-run names found rec summary run kept) (all-made between stored same once) is
@@ -130,6 +130,6 @@ module _ (names : MakeNames) (before after : Outside) (status : ℕ) (found : Op
   reached (MakeResult between rec summary stored run kept (CutShort four same rises less said)) once =
       let b = behind (make_texts names) before between stored in
       Unsummed (made-run names found rec summary run kept) (all-made between stored same once) four
-      (subst (λ z. HasRisen z after.cuts) b.cuts rises)
+      (subst (λ z. HasRisen z after.sink_faults) b.sink_faults rises)
       (subst (λ z. before.sure < length z) run.summary_is (subst (λ z. z < length summary) b.sure less))
-      (subst (λ z. IsLinePrinted before after z) run.summary_is (rw (b.held, b.cuts) at said))
+      (subst (λ z. IsLinePrinted before after z) run.summary_is (rw (b.held, b.sink_faults) at said))

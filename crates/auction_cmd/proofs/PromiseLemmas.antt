@@ -209,7 +209,7 @@ module _ (plan : Plan) (before after : Outside) (status : ℕ) (found below : Op
   made-statuses : {names : MakeNames} → Reached names before after status found → IsTrue (is_in (0 ∷ 1 ∷ 4 ∷ 8 ∷ []) status)
   made-statuses {names} w = let m : MakePromises names before after status found = make-promises names before after status found w in m.statuses
 
-  made-unwritten : {names : MakeNames} → Reached names before after status found → status ≡ 4 → HasRisen before.faults after.faults ⊎ HasRisen before.cuts after.cuts
+  made-unwritten : {names : MakeNames} → Reached names before after status found → status ≡ 4 → HasRisen before.faults after.faults ⊎ HasRisen before.sink_faults after.sink_faults
   made-unwritten {names} w four =
       let m : MakePromises names before after status found = make-promises names before after status found w in
       elim (m.unwritten four) [
@@ -330,7 +330,7 @@ module _ (plan : Plan) (before after : Outside) (status : ℕ) (found below : Op
   all-unread (Exported names is single end alone) three = export-unread names before after status found end three
   all-unread (Imported names is valued single end alone) three = import-unread names before after status found end three
 
-  all-unwritten : Ends plan before after status found below → status ≡ 4 → HasRisen before.faults after.faults ⊎ HasRisen before.cuts after.cuts
+  all-unwritten : Ends plan before after status found below → status ≡ 4 → HasRisen before.faults after.faults ⊎ HasRisen before.sink_faults after.sink_faults
   all-unwritten (EndedOutOfMemory s still alone) four = let eight = s.status_is in absurd (omega arith)
   all-unwritten (Usage text is two none said files still alone) four = absurd (omega arith)
   all-unwritten (Repeated name is five none said files still alone) four = absurd (omega arith)

@@ -419,7 +419,7 @@ module _ (names : ResumeNames) (before after : Outside) (status : ℕ) (found : 
 
   -- ---- what was not written, and what is unchanged
 
-  all-unwritten : ResumeEnds names before after status found → status ≡ 4 → HasRisen before.faults after.faults ⊎ HasRisen before.cuts after.cuts
+  all-unwritten : ResumeEnds names before after status found → status ≡ 4 → HasRisen before.faults after.faults ⊎ HasRisen before.sink_faults after.sink_faults
   all-unwritten end four = let w = at-one 4 end four refl in run-unwritten (order_kept w.kept) names.run_files before after status found (as-run w) four
 
   stand : (files : List StoredFile) → before.files ≡ Some files → after.files ≡ before.files → MatchOption after.files ⊥ (λ new. AllOthersUnchanged files new (output_names names.run_files))

@@ -73,7 +73,7 @@ module _ (names : VerifyNames) (before after : Outside) (status : ℕ) (found : 
   all-done files (Sound inputs text rec are can held is of kept (CutShort four same rises less said)) modelled h = absurd (off (0 ∷ 1 ∷ []) status 4 h four refl)
 
   all-cut : (files : List StoredFile) → VerifyEnds names before after status found → before.files ≡ Some files → status ≡ 4 →
-      (v : IsVerified files names found) × HasRisen before.cuts after.cuts × (before.sure < length (verified_text v)) × IsLinePrinted before after (verified_text v)
+      (v : IsVerified files names found) × HasRisen before.sink_faults after.sink_faults × (before.sure < length (verified_text v)) × IsLinePrinted before after (verified_text v)
   all-cut files (VerifyStopped s none) modelled four = absurd (off (3 ∷ 5 ∷ 8 ∷ []) status 4 (stopped-statuses names.inputs before after status s) four refl)
   all-cut files (VerifyOutOfMemory s) modelled four = let eight = s.status_is in absurd (omega arith)
   all-cut files (NotLoaded inputs are n none same) modelled four = absurd (off (3 ∷ 5 ∷ []) status 4 (unloaded-statuses names.transcript before after status n) four refl)
@@ -150,7 +150,7 @@ module _ (names : VerifyNames) (before after : Outside) (status : ℕ) (found : 
 
   -- ---- the sink
 
-  all-unwritten : VerifyEnds names before after status found → status ≡ 4 → HasRisen before.cuts after.cuts
+  all-unwritten : VerifyEnds names before after status found → status ≡ 4 → HasRisen before.sink_faults after.sink_faults
   all-unwritten (VerifyStopped s none) four = absurd (off (3 ∷ 5 ∷ 8 ∷ []) status 4 (stopped-statuses names.inputs before after status s) four refl)
   all-unwritten (VerifyOutOfMemory s) four = let eight = s.status_is in absurd (omega arith)
   all-unwritten (NotLoaded inputs are n none same) four = absurd (off (3 ∷ 5 ∷ []) status 4 (unloaded-statuses names.transcript before after status n) four refl)

@@ -82,7 +82,7 @@ pub record IsBatchUnstored (files : List StoredFile) (names : BatchNames) (befor
 pub record IsBatchCut (files : List StoredFile) (names : BatchNames) (before after : Outside) (batch : List Record) : Type 0 where
   pub run : IsBatchRun names before batch
   pub stored : MatchOption after.files ⊥ (λ new. AreStored files new (batch_texts run.held batch))
-  pub failed : HasRisen before.cuts after.cuts
+  pub failed : HasRisen before.sink_faults after.sink_faults
   pub unsure : before.sure < length (status_lines run.held.lines batch)
   pub lines : IsLinePrinted before after (status_lines run.held.lines batch)
 
@@ -125,7 +125,7 @@ pub record BatchPromises (names : BatchNames) (before after : Outside) (status :
   -- At status 4 the fault count of the folder or of the sink rose. In a modelled folder, either a store failed, or the results are
   -- stored and the sink failed at the status lines. The status is not 4 with a steady folder and a sink that guarantees room for
   -- the lines.
-  pub unwritten : status ≡ UNWRITTEN → HasRisen before.faults after.faults ⊎ HasRisen before.cuts after.cuts
+  pub unwritten : status ≡ UNWRITTEN → HasRisen before.faults after.faults ⊎ HasRisen before.sink_faults after.sink_faults
   pub unstored : (files : List StoredFile) → before.files ≡ Some files → status ≡ UNWRITTEN →
       IsBatchUnstored files names before after batch ⊎ IsBatchCut files names before after batch
   pub surely_written : before.steady ≡ true → ((run : IsBatchRun names before batch) → length (status_lines run.held.lines batch) ≤ before.sure) →

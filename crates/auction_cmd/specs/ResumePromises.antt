@@ -115,7 +115,7 @@ pub record ResumePromises (names : ResumeNames) (before after : Outside) (status
       before.files ≡ Some files → before.steady ≡ true → inputs_of files names.run_files.inputs ≡ Ok inputs → bytes_of files names.prefix ≡ None →
       (status ≡ NO_MEMORY) ⊎ ((status ≡ UNREAD) × IsLinePrinted before after (unread_line names.prefix))
   -- At status 4 the fault count of the folder or of the sink rose.
-  pub unwritten : status ≡ UNWRITTEN → HasRisen before.faults after.faults ⊎ HasRisen before.cuts after.cuts
+  pub unwritten : status ≡ UNWRITTEN → HasRisen before.faults after.faults ⊎ HasRisen before.sink_faults after.sink_faults
   -- In a modelled folder, no file changes except RESULT, CHANNELS and TRANSCRIPT. No file changes without a record, nor at status 6
   -- and 7.
   pub others : (files : List StoredFile) → before.files ≡ Some files →

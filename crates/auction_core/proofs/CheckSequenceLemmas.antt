@@ -1,4 +1,4 @@
--- The auction that a transcript's steps settle, and the walk that looks for the first step that is not proved, side by side.
+-- The auction that a transcript's steps settle, and the walk that looks for the first step that is not certified, side by side.
 use Rattle.std.proofs.Common.{◌≡◌, ℕ, ◌+◌, Bool, true, false, if◌then◌else◌, List, [], ◌∷◌, ◌++◌, length, Option, Some, None, option_map, refl, sym, ap, ◌∙◌, arith, inl, inr, append_assoc}
 use Rattle.std.specs.Prelude.{slice_get}
 use Rattle.std.specs.Option.{option_map_or}

@@ -1,7 +1,7 @@
 //! Checks a transcript by carrying out the auction again: each query is settled as the transcript says, if its certificate is
 //! accepted. `transcript_check` calls `check_whole_sequence`; `auction` calls `check_kept_sequence`.
 //!
-//! One step is checked by `step_check` (with `shown_of_line`, `receipts`, `log_numbers` and `step_err`). This file checks the start,
+//! One step is checked by `step_check` (with `certificates`, `receipts`, `log_numbers` and `step_err`). This file checks the start,
 //! then all steps, then the end.
 
 ghost use Rattle.std.specs.Prelude.{◌≡◌, ◌<◌, ◌^◌, ◌&&◌, [], IfErr, IfOk, List, None, OnOk, Option, Some, length, not, option_map, true};

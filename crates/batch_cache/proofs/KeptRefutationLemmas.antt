@@ -15,7 +15,8 @@ use Rattle.cert_types.specs.declared.answer.Refutation.{Refutation}
 use Rattle.cert_types.specs.declared.answer.Refutation.TheVariants.{Proof, Dead}
 use Rattle.cert_types.specs.declared.task.Task.{Task}
 use Rattle.cert_types.specs.Refutes.{is_dead, is_subset}
-use Rattle.cert_types.specs.Valid.{answer_fault, learns, unless}
+use Rattle.cert_types.specs.Valid.{answer_fault, unless}
+use Rattle.pack_defs.specs.Scenario.{learns}
 use Rattle.cert_types.proofs.DeltaLemmas.{kept-ascends}
 use Rattle.batch_cache.specs.declared.key.Key.{Key}
 use Rattle.batch_cache.specs.Answering.{gives_refutation, is_valid}

@@ -10,7 +10,7 @@ use Rattle.cert_types.specs.declared.answer.Answer.TheVariants.{Fit, Refuted}
 use Rattle.cert_types.specs.declared.answer.Refutation.{Refutation}
 use Rattle.cert_types.specs.declared.answer.Refutation.TheVariants.{Proof, Dead}
 use Rattle.cert_types.specs.declared.task.Task.{Task}
-use Rattle.cert_types.specs.Valid.{learns}
+use Rattle.pack_defs.specs.Scenario.{learns}
 use Rattle.batch_cache.specs.declared.key.Key.{Key}
 use Rattle.batch_cache.specs.declared.search.FoundAnswer.{FoundAnswer}
 use Rattle.batch_cache.specs.Answering.{is_valid, restrict_to}

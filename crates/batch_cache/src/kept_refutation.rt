@@ -1,7 +1,7 @@
 //! A refutation in the cache.
 
 ghost use Rattle.std.specs.Prelude.{◌≡◌, IfOk};
-ghost use Rattle.cert_types.specs.Valid.{learns};
+ghost use Rattle.pack_defs.specs.Scenario.{learns};
 ghost use Rattle.batch_cache.specs.KeptRefutation.{learns_within, may_answer, may_be_of, named_stations};
 
 use crate::copies::copy_of;

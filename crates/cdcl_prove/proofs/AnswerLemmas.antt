@@ -22,7 +22,8 @@ use Rattle.cert_types.specs.declared.answer.Refutation.TheVariants.{Proof}
 use Rattle.cert_types.specs.declared.answer.Receipt.TheVariants.{Lines}
 use Rattle.cert_types.specs.Refutes.{is_subset}
 use Rattle.cert_types.specs.Spent.{AreSpentLines}
-use Rattle.cert_types.specs.Valid.{IsValid, learns}
+use Rattle.cert_types.specs.Valid.{IsValid}
+use Rattle.pack_defs.specs.Scenario.{learns}
 use Rattle.cert_types.proofs.Meaning.{means-fit, means-proof, means-lines}
 use Rattle.cdcl_prove.specs.Formulas.{IsFormulaOf}
 use Rattle.cdcl_prove.proofs.Following.{append-nil}

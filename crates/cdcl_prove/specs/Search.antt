@@ -10,7 +10,8 @@ use Rattle.pack_defs.specs.Book.{BookView}
 use Rattle.cert_types.specs.declared.answer.Answer.{Answer}
 use Rattle.cert_types.specs.declared.task.Task.{Task}
 use Rattle.cert_types.specs.Refutes.{is_subset}
-use Rattle.cert_types.specs.Valid.{IsValid, learns}
+use Rattle.cert_types.specs.Valid.{IsValid}
+use Rattle.pack_defs.specs.Scenario.{learns}
 use Rattle.cert_types.specs.declared.answer.Answer.TheVariants as answer
 use Rattle.trail_prop.specs.declared.entry.Conflict.{Conflict}
 use Rattle.trail_prop.specs.Entries.{lits_of}

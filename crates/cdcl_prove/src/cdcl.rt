@@ -5,7 +5,7 @@ ghost use Rattle.pack_defs.specs.Lists.{is_ascending};
 ghost use Rattle.pack_defs.specs.declared.worker.Worker.{Worker};
 ghost use Rattle.cert_types.specs.Query.{AttemptIs, IsQuery};
 ghost use Rattle.cert_types.specs.Refutes.{is_subset};
-ghost use Rattle.cert_types.specs.Valid.{learns};
+ghost use Rattle.pack_defs.specs.Scenario.{learns};
 ghost use Rattle.cdcl_prove.specs.Formulas.{IsFormulaOf};
 ghost use Rattle.cdcl_prove.specs.Search.{IsModel, SearchEndIs};
 
@@ -54,7 +54,7 @@ pub struct SearchCounts {
 impl Model for Cdcl {
     ghost use Rattle.std.specs.Prelude.{◌≡◌, true};
     ghost use Rattle.pack_defs.specs.declared.worker.Worker.{Worker};
-    ghost use Rattle.cert_types.specs.Valid.{learns};
+    ghost use Rattle.pack_defs.specs.Scenario.{learns};
 
     ghost Value = { Worker };
 

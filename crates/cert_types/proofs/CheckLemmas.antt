@@ -17,7 +17,8 @@ use Rattle.cert_types.specs.declared.answer.Place.TheVariants.{Kind, Count, Subs
 use Rattle.cert_types.specs.FirstLine.{first_line, line_follows, meets_both, lesser}
 use Rattle.cert_types.specs.Refutes.{is_subset, is_proof_line, same_pair}
 use Rattle.cert_types.specs.Spent.{is_spent_line}
-use Rattle.cert_types.specs.Valid.{learns, proof_fault, spent_lines_fault, unless}
+use Rattle.cert_types.specs.Valid.{proof_fault, spent_lines_fault, unless}
+use Rattle.pack_defs.specs.Scenario.{learns}
 use Rattle.cert_types.proofs.LineLemmas.{first-both}
 
 -- the lesser of the results of the two scans is the first invalid line

@@ -16,7 +16,7 @@ use Rattle.rup_check.proofs.Marking.{within-to, within-from}
 use Rattle.rup_check.proofs.Reading.{clauses-more, line-read}
 use Rattle.cnf_encode.proofs.PairLemmas.{list_all-get}
 use Rattle.cert_types.specs.declared.clause_index.IndexedClause.{IndexedClause}
-use Rattle.cert_types.specs.Fresh.{stands_within, is_fresh}
+use Rattle.cert_types.specs.Fresh.{is_subclause, is_fresh}
 use Rattle.cert_types.specs.ClauseIndex.{ClauseIndexView, zero_lit, numbered_within, clause_within, indexed_within, indexed_at, some_indexed, has_indexed_within, indexed_clause_of, with_indexed, with_unkeyed, IsKey, IsClauseIndex}
 use Rattle.cert_types.specs.Signature.{signature, covers}
 use Rattle.cert_types.proofs.SignatureLemmas.{within-covers}
@@ -85,20 +85,20 @@ some-more p files key f (l ∷ ls) size w =
     (λ i. first i || rest i) ∙ (sym (or_assoc a r (h && p f)) ∙ ap (λ (b : Bool). (a || r) || ((b || h) && p f)) (sym is)))
 
 -- freshness beside one more clause
-fresh-more : (seen : List (List Lit)) (c lits : List Lit) → not (is_fresh (seen ++ c ∷ []) lits) ≡ (not (is_fresh seen lits) || stands_within lits c)
-fresh-more [] c lits = last (stands_within lits c)
+fresh-more : (seen : List (List Lit)) (c lits : List Lit) → not (is_fresh (seen ++ c ∷ []) lits) ≡ (not (is_fresh seen lits) || is_subclause lits c)
+fresh-more [] c lits = last (is_subclause lits c)
   where
     last : (w : Bool) → not (not w && true) ≡ w
     last true = refl
     last false = refl
-fresh-more (d ∷ ds) c lits = step (stands_within lits d) (fresh-more ds c lits)
+fresh-more (d ∷ ds) c lits = step (is_subclause lits d) (fresh-more ds c lits)
   where
-    step : (a : Bool) → not (is_fresh (ds ++ c ∷ []) lits) ≡ (not (is_fresh ds lits) || stands_within lits c) → not (not a && is_fresh (ds ++ c ∷ []) lits) ≡ (not (not a && is_fresh ds lits) || stands_within lits c)
+    step : (a : Bool) → not (is_fresh (ds ++ c ∷ []) lits) ≡ (not (is_fresh ds lits) || is_subclause lits c) → not (not a && is_fresh (ds ++ c ∷ []) lits) ≡ (not (not a && is_fresh ds lits) || is_subclause lits c)
     step true e = refl
     step false e = e
 
 -- a clause that is filed like this is found for its supersets, and for no other literals
-filed-more : (used : Lit → Bool) (all seen : List (List Lit)) (files : ClauseIndexView) (key : Lit) (f : IndexedClause) (c : List Lit) → length files.lists ≡ 2 * files.vars → LitWithin files.vars key → ((lits : List Lit) → (has_lit lits key && indexed_within all lits (signature lits) f) ≡ stands_within lits c) → IsClauseIndex used all files seen → IsClauseIndex used all (with_indexed files key f) (seen ++ c ∷ [])
+filed-more : (used : Lit → Bool) (all seen : List (List Lit)) (files : ClauseIndexView) (key : Lit) (f : IndexedClause) (c : List Lit) → length files.lists ≡ 2 * files.vars → LitWithin files.vars key → ((lits : List Lit) → (has_lit lits key && indexed_within all lits (signature lits) f) ≡ is_subclause lits c) → IsClauseIndex used all files seen → IsClauseIndex used all (with_indexed files key f) (seen ++ c ∷ [])
 filed-more used all seen files key f c size w says h = λ lits u.
     let unkeyed : Bool = list_any (numbered_within all lits) files.unkeyed in
     let some : Bool = some_indexed (indexed_within all lits (signature lits)) files lits in
@@ -145,21 +145,21 @@ and-swapped false true = refl
 and-swapped false false = refl
 
 -- a clause that is filed with its number
-long-says : (all : List (List Lit)) (clause lits : List Lit) (n k j : ℕ) → 1 ≤ n → clause_at all n ≡ Some clause → k < length clause → j < length clause → ((length clause == 2) && not (k == j)) ≡ false → (has_lit lits (get_or clause k zero_lit) && indexed_within all lits (signature lits) (indexed_clause_of clause n k j)) ≡ stands_within lits clause
+long-says : (all : List (List Lit)) (clause lits : List Lit) (n k j : ℕ) → 1 ≤ n → clause_at all n ≡ Some clause → k < length clause → j < length clause → ((length clause == 2) && not (k == j)) ≡ false → (has_lit lits (get_or clause k zero_lit) && indexed_within all lits (signature lits) (indexed_clause_of clause n k j)) ≡ is_subclause lits clause
 long-says all clause lits n k j one e l m long =
     let number : (if (length clause == 2) && not (k == j) then 0 else n) ≡ n = ap (λ (b : Bool). if b then 0 else n) long in
     let some : (n == 0) ≡ false = ne_eqb n 0 (λ z. omega arith) in
-    let whole : ((n == 0) || numbered_within all lits n) ≡ stands_within lits clause = (λ i. some i || clause_within lits (e i)) in
+    let whole : ((n == 0) || numbered_within all lits n) ≡ is_subclause lits clause = (λ i. some i || clause_within lits (e i)) in
     let covered : Bool = covers (signature lits) (signature clause) in
     ap (λ (m : ℕ). has_lit lits (get_or clause k zero_lit) && (covered && (has_lit lits (get_or clause j zero_lit) && ((m == 0) || numbered_within all lits m)))) number
     ∙ (ap (λ (b : Bool). has_lit lits (get_or clause k zero_lit) && (covered && (has_lit lits (get_or clause j zero_lit) && b))) whole
-    ∙ and-all (has_lit lits (get_or clause k zero_lit)) covered (has_lit lits (get_or clause j zero_lit)) (stands_within lits clause) (λ s. list_all-get (has_lit lits) clause k zero_lit s l) (λ s. within-covers lits clause s) (λ s. list_all-get (has_lit lits) clause j zero_lit s m))
+    ∙ and-all (has_lit lits (get_or clause k zero_lit)) covered (has_lit lits (get_or clause j zero_lit)) (is_subclause lits clause) (λ s. list_all-get (has_lit lits) clause k zero_lit s l) (λ s. within-covers lits clause s) (λ s. list_all-get (has_lit lits) clause j zero_lit s m))
 
 -- a clause of two literals, filed with 0
-pair-says : (all : List (List Lit)) (clause lits : List Lit) (k j : ℕ) → (has_lit lits (get_or clause k zero_lit) && (has_lit lits (get_or clause j zero_lit) && true)) ≡ stands_within lits clause → (has_lit lits (get_or clause k zero_lit) && (covers (signature lits) (signature clause) && (has_lit lits (get_or clause j zero_lit) && true))) ≡ stands_within lits clause
-pair-says all clause lits k j e = and-both (has_lit lits (get_or clause k zero_lit)) (covers (signature lits) (signature clause)) (has_lit lits (get_or clause j zero_lit)) (stands_within lits clause) e (λ s. within-covers lits clause s)
+pair-says : (all : List (List Lit)) (clause lits : List Lit) (k j : ℕ) → (has_lit lits (get_or clause k zero_lit) && (has_lit lits (get_or clause j zero_lit) && true)) ≡ is_subclause lits clause → (has_lit lits (get_or clause k zero_lit) && (covers (signature lits) (signature clause) && (has_lit lits (get_or clause j zero_lit) && true))) ≡ is_subclause lits clause
+pair-says all clause lits k j e = and-both (has_lit lits (get_or clause k zero_lit)) (covers (signature lits) (signature clause)) (has_lit lits (get_or clause j zero_lit)) (is_subclause lits clause) e (λ s. within-covers lits clause s)
 
-pub filed-says : (all : List (List Lit)) (clause lits : List Lit) (n k j : ℕ) → 1 ≤ n → clause_at all n ≡ Some clause → k < length clause → j < length clause → (has_lit lits (get_or clause k zero_lit) && indexed_within all lits (signature lits) (indexed_clause_of clause n k j)) ≡ stands_within lits clause
+pub filed-says : (all : List (List Lit)) (clause lits : List Lit) (n k j : ℕ) → 1 ≤ n → clause_at all n ≡ Some clause → k < length clause → j < length clause → (has_lit lits (get_or clause k zero_lit) && indexed_within all lits (signature lits) (indexed_clause_of clause n k j)) ≡ is_subclause lits clause
 filed-says all [] lits n k j one e l m = absurd (omega arith)
 filed-says all (a ∷ []) lits n k j one e l m = long-says all (a ∷ []) lits n k j one e l m refl
 filed-says all (a ∷ b ∷ []) lits n zero zero one e l m = long-says all (a ∷ b ∷ []) lits n 0 0 one e l m refl

@@ -23,7 +23,8 @@ use Rattle.cert_types.specs.declared.answer.Place.TheVariants.{Kind, Count, Subs
 use Rattle.cert_types.specs.FirstLine.{first_line}
 use Rattle.cert_types.specs.Spent.{is_spent_line}
 use Rattle.cert_types.specs.Refutes.{is_dead, is_subset, is_proof_line}
-use Rattle.cert_types.specs.Valid.{answer_fault, learns, place_of, unless, IsValid, IsProof, IsSpentLog, IsSpentWalk}
+use Rattle.cert_types.specs.Valid.{answer_fault, place_of, unless, IsValid, IsProof, IsSpentLog, IsSpentWalk}
+use Rattle.pack_defs.specs.Scenario.{learns}
 use Rattle.cert_types.specs.Moves.{first_move, start_map}
 use Rattle.cert_types.proofs.Validity.{unless-parts, fit-clean, proof-follows, proof_line, some_line}
 use Rattle.cert_types.proofs.SpentLaws.{is-none, then-none, lines-spent, spent-lines, moves-spent, spent-moves}

@@ -8,7 +8,7 @@ use Rattle.std.proofs.lemmas.Bool.{and_parts}
 use Rattle.clause_db.specs.declared.lit.Lit.{Lit}
 use Rattle.clause_db.specs.Clause.{has_lit}
 use Rattle.clause_db.proofs.Literals.{lit_cases, same_lit-apart}
-use Rattle.cert_types.specs.Fresh.{stands_within}
+use Rattle.cert_types.specs.Fresh.{is_subclause}
 use Rattle.cert_types.specs.Signature.{bit_of, signed, signature, covers}
 
 -- each bit of one number is a bit of the other
@@ -43,15 +43,15 @@ signed-has (m ∷ ms) l bits h =
     (λ e. subst (λ (z : Lit). Among (bit_of z) (signed more ms)) (sym e) (among-both (bit_of m) more (signed more ms) (among-second bits (bit_of m)) (signed-keeps ms more)))
     (λ r. signed-has ms l more r)
 
-signed-among : (lits clause : List Lit) (bits : ℕ) → Among bits (signature lits) → stands_within lits clause ≡ true → Among (signed bits clause) (signature lits)
+signed-among : (lits clause : List Lit) (bits : ℕ) → Among bits (signature lits) → is_subclause lits clause ≡ true → Among (signed bits clause) (signature lits)
 signed-among lits [] bits h s = h
 signed-among lits (l ∷ ls) bits h s =
-    let parts = and_parts (has_lit lits l) (stands_within lits ls) s in
+    let parts = and_parts (has_lit lits l) (is_subclause lits ls) s in
     signed-among lits ls (bit_or bits (bit_of l)) (among-all bits (bit_of l) (signature lits) h (signed-has lits l 0 parts.0)) parts.1
 
 pub among-covers : (these bits : ℕ) → Among bits these → covers these bits ≡ true
 among-covers these bits h = eq-eqb (bit_and bits these) bits (same_from_bits (bit_and bits these) bits (λ i. bit_at_and bits these i ∙ min-eq_left (h i)))
 
 -- the bits of a subset of the literals are among theirs
-pub within-covers : (lits clause : List Lit) → stands_within lits clause ≡ true → covers (signature lits) (signature clause) ≡ true
+pub within-covers : (lits clause : List Lit) → is_subclause lits clause ≡ true → covers (signature lits) (signature clause) ≡ true
 within-covers lits clause s = among-covers (signature lits) (signature clause) (signed-among lits clause 0 (signed-keeps lits 0) s)

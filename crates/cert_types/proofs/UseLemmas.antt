@@ -11,7 +11,7 @@ use Rattle.cnf_encode.proofs.PairLemmas.{list_all-get}
 use Rattle.rup_check.specs.declared.line.Line.{Line}
 use Rattle.rup_check.specs.KnownLiterals.{is_lit_within}
 use Rattle.rup_check.proofs.Marking.{within-from}
-use Rattle.cert_types.specs.Fresh.{stands_within}
+use Rattle.cert_types.specs.Fresh.{is_subclause}
 use Rattle.cert_types.specs.Uses.{AreCounted, UsesView, are_used, count_of, is_used, one_more, times_in, times_of}
 use Rattle.cert_types.proofs.SignatureLemmas.{has-parts}
 
@@ -23,11 +23,11 @@ used-of used (m ∷ ms) l h u =
     has-parts m ms l (used l ≡ true) h (λ e. ap used e ∙ parts.0) (λ r. used-of used ms l r parts.1)
 
 -- a clause with a literal that fails the test is no subset of literals that all pass
-pub unused : (used : Lit → Bool) (lits clause : List Lit) → list_all used clause ≡ false → list_all used lits ≡ true → stands_within lits clause ≡ false
+pub unused : (used : Lit → Bool) (lits clause : List Lit) → list_all used clause ≡ false → list_all used lits ≡ true → is_subclause lits clause ≡ false
 unused used lits [] e u = cc
 unused used lits (l ∷ ls) e u = step (has_lit lits l) (used l) (λ h. used-of used lits l h u) e (λ f. unused used lits ls f u)
   where
-    step : (b w : Bool) → (b ≡ true → w ≡ true) → (w && list_all used ls) ≡ false → (list_all used ls ≡ false → stands_within lits ls ≡ false) → (b && stands_within lits ls) ≡ false
+    step : (b w : Bool) → (b ≡ true → w ≡ true) → (w && list_all used ls) ≡ false → (list_all used ls ≡ false → is_subclause lits ls ≡ false) → (b && is_subclause lits ls) ≡ false
     step false w f e rest = refl
     step true true f e rest = rest e
     step true false f e rest = absurd (clash (f refl))

@@ -21,7 +21,8 @@ use Rattle.cert_types.specs.declared.answer.Place.{Place}
 use Rattle.cert_types.specs.declared.answer.Place.TheVariants.{Kind, Count, Subset, PairOf, LineAt}
 use Rattle.cert_types.specs.FirstLine.{first_line}
 use Rattle.cert_types.specs.Refutes.{Refutes, ByLog, ByPair, is_dead, is_subset, is_proof_line}
-use Rattle.cert_types.specs.Valid.{answer_fault, fit_fault, learns, place_of, unless}
+use Rattle.cert_types.specs.Valid.{answer_fault, fit_fault, place_of, unless}
+use Rattle.pack_defs.specs.Scenario.{learns}
 use Rattle.pack_defs.proofs.Words.{mapped-none}
 
 pub unless-parts : (b : Bool) (place : Place) (rest : Option Place) → unless b place rest ≡ None → (b ≡ true) × (rest ≡ None)

@@ -6,7 +6,7 @@ use Rattle.clause_db.specs.Clause.{has_lit, clause_at, code_of}
 use Rattle.clause_db.specs.Clauses.{LitWithin}
 use Rattle.rup_check.specs.KnownLiterals.{is_lit_within}
 use Rattle.cert_types.specs.declared.clause_index.IndexedClause.{IndexedClause}
-use Rattle.cert_types.specs.Fresh.{stands_within, is_fresh}
+use Rattle.cert_types.specs.Fresh.{is_subclause, is_fresh}
 use Rattle.cert_types.specs.Signature.{signature, covers}
 
 -- The number of variables, the clauses filed under each literal (by its code), and the numbers of the clauses filed under none.
@@ -18,7 +18,7 @@ pub record ClauseIndexView : Type 0 where
 -- Whether there is a clause and each of its literals is one of these.
 abbrev pub clause_within : List Lit → Option (List Lit) → Bool
 clause_within lits None = false
-clause_within lits (Some clause) = stands_within lits clause
+clause_within lits (Some clause) = is_subclause lits clause
 
 -- Whether the clause of this number exists and is a subset of the literals.
 abbrev pub numbered_within : List (List Lit) → List Lit → ℕ → Bool

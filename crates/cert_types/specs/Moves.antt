@@ -27,7 +27,8 @@ violates_some book entries = list_any (is_violated entries) book.pairs
 abbrev pub has_violation : BookView → List (ℕ × ℕ) → ℕ → Bool
 has_violation book entries s = list_any (λ p. is_of s p && is_violated entries p) book.pairs
 
--- Whether a move puts a station of a violated pair on another channel of its domain.
+-- Whether a move puts a station of a violated pair on another channel of its domain. The new map may violate more pairs, and may be one
+-- in which the walk was before.
 abbrev pub is_move : BookView → List (ℕ × ℕ) → ℕ × ℕ → Bool
 is_move book entries x =
     has_violation book entries x.0 && (is_in (domain_of book x.0) x.1 && not (has_entry entries x))

@@ -4,8 +4,7 @@
 use Rattle.std.specs.Prelude.{ℕ, Bool, true, false, not, ◌&&◌, ◌==◌, ◌≡◌, nat_lt, nat_le, List, length, Option, Some, None, option_map, ◌<◌, ◌≤◌}
 use Rattle.pack_defs.specs.declared.pair.Pair.{Pair}
 use Rattle.pack_defs.specs.declared.worker.Worker.{Worker}
-use Rattle.pack_defs.specs.declared.worker.Kind.{Kind as WorkerKind}
-use Rattle.pack_defs.specs.declared.worker.Kind.TheVariants.{Cdcl, Walk}
+use Rattle.pack_defs.specs.Scenario.{learns}
 use Rattle.pack_defs.specs.Book.{BookView}
 use Rattle.pack_defs.specs.ChannelMap.{overlaid}
 use Rattle.assign_check.specs.declared.fault.MapFault.{MapFault}
@@ -25,11 +24,6 @@ use Rattle.cert_types.specs.FirstLine.{first_line}
 use Rattle.cert_types.specs.Spent.{is_spent_line, AreSpentLines}
 use Rattle.cert_types.specs.Refutes.{is_dead, is_subset, is_proof_line}
 use Rattle.cert_types.specs.Moves.{AreSpentMoves, first_move, start_map}
-
--- Whether a worker of this kind learns clauses. Any other walks over maps.
-abbrev pub learns : WorkerKind → Bool
-learns Cdcl = true
-learns Walk = false
 
 -- The place of a map's fault.
 abbrev pub place_of : MapFault → Place

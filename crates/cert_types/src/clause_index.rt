@@ -7,7 +7,7 @@ ghost use Rattle.std.specs.List.{list_any};
 ghost use Rattle.clause_db.specs.declared.lit.Lit.{Lit};
 ghost use Rattle.clause_db.specs.Clause.{clause_at};
 ghost use Rattle.rup_check.specs.Follows.{clauses_before};
-ghost use Rattle.cert_types.specs.Fresh.{stands_within};
+ghost use Rattle.cert_types.specs.Fresh.{is_subclause};
 ghost use Rattle.clause_db.specs.Clauses.{LitWithin};
 ghost use Rattle.cert_types.specs.Signature.{signature};
 ghost use Rattle.cert_types.specs.Uses.{is_used};
@@ -286,7 +286,7 @@ fn is_numbered_within(
 
 // Whether each literal is marked.
 fn are_marked(clause: Literals<'_>, marks: &KnownLiterals) -> bool
-    ensures { result ≡ stands_within marks.now.lits clause.entry }
+    ensures { result ≡ is_subclause marks.now.lits clause.entry }
 {
     let mut left = clause;
     while let Some(lit) = left.next() {

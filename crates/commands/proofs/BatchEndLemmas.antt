@@ -91,8 +91,8 @@ stopped-each names listed before between after status read once s same h = recor
   modelled = λ files modelled. stops-each files names before.steady listed h.stop (read files modelled) once
       (subst (λ b. StopsAsHeld b (each_inputs files names listed.constraints listed.lines) h.stop) s.steady (h.modelled files (s.files ∙ modelled)));
   counted = subst (λ n. CountsStop n after.faults h.stop) same h.counted;
-  explains = subst (λ z. ExplainsStop h.stop before.held after.held z after.cuts status) s.cuts
-      (subst (λ z. ExplainsStop h.stop z after.held between.cuts after.cuts status) s.held h.explains);
+  explains = subst (λ z. ExplainsStop h.stop before.held after.held z after.sink_faults status) s.sink_faults
+      (subst (λ z. ExplainsStop h.stop z after.held between.sink_faults after.sink_faults status) s.held h.explains);
   files = h.files ∙ s.files;
 }
   where

@@ -42,7 +42,7 @@ LeavesPart xs x before after = (files : List StoredFile) → before.files ≡ So
 -- How a delivery ends: all is done; the summary fails; a store fails; or memory runs out at a store.
 pub data Ended (xs : List NamedText) (summary : List ℕ) (done : ℕ) (before after : Outside) (status : ℕ) : Type 0 where
   Both : status ≡ done → LeavesAll xs before after → Writes before.held after.held summary (Ok tt) → Ended xs summary done before after status
-  NotSaid : status ≡ 4 → LeavesAll xs before after → HasRisen before.cuts after.cuts → before.sure < length summary →
+  NotSaid : status ≡ 4 → LeavesAll xs before after → HasRisen before.sink_faults after.sink_faults → before.sure < length summary →
       IsLinePrinted before after summary → Ended xs summary done before after status
   NotStored : (x : NamedText) → status ≡ 4 → LeavesPart xs x before after → HasRisen before.faults after.faults → before.steady ≢ true →
       IsLinePrinted before after (unwritten_line x.name) → Ended xs summary done before after status
@@ -140,11 +140,11 @@ one-more : (x : NamedText) (xs : List NamedText) (summary : List ℕ) (done : �
 one-more x xs summary done before next after status s (Both is all writes) =
     Both is (all-more x xs before next after s all) (subst (λ z. Writes z after.held summary (Ok tt)) s.held writes)
 one-more x xs summary done before next after status s (NotSaid four all rises less said) =
-    NotSaid four (all-more x xs before next after s all) (subst (λ z. HasRisen z after.cuts) s.cuts rises) (subst (λ z. z < length summary) s.sure less) (rw (s.held, s.cuts) at said)
+    NotSaid four (all-more x xs before next after s all) (subst (λ z. HasRisen z after.sink_faults) s.sink_faults rises) (subst (λ z. z < length summary) s.sure less) (rw (s.held, s.sink_faults) at said)
 one-more x xs summary done before next after status s (NotStored y four part rises unsteady said) =
-    NotStored y four (up-more x y xs before next after s part) (rises-before before.faults next.faults after.faults s.faults rises) (λ steady. unsteady (s.steady ∙ steady)) (rw (s.held, s.cuts) at said)
+    NotStored y four (up-more x y xs before next after s part) (rises-before before.faults next.faults after.faults s.faults rises) (λ steady. unsteady (s.steady ∙ steady)) (rw (s.held, s.sink_faults) at said)
 one-more x xs summary done before next after status s (OutOfRoom y eight part said) =
-    OutOfRoom y eight (up-more x y xs before next after s part) (rw (s.held, s.cuts) at said)
+    OutOfRoom y eight (up-more x y xs before next after s part) (rw (s.held, s.sink_faults) at said)
 
 pub ended-of : (xs : List NamedText) (summary : List ℕ) (done : ℕ) (before after : Outside) (status : ℕ) → Delivers xs summary done before after status → Ended xs summary done before after status
 ended-of [] summary done before after status (Written is same writes) = Both is (all-none before after same) writes
@@ -170,7 +170,7 @@ delivers-some (x ∷ xs) summary done before after status (inr n) = inr n
 
 -- A text that the folder stored.
 stored-one : (x : NewFile) (old new : FolderModel) (sink : SinkModel) → StoresOne (stored_file x) old new → IsStored (named_text x) (outside old sink) (outside new sink)
-stored-one x old new sink one = let same = one.faults in record { stores = one.stores; faults = omega arith; steady = one.steady; held = refl; cuts = refl; sure = refl }
+stored-one x old new sink one = let same = one.faults in record { stores = one.stores; faults = omega arith; steady = one.steady; held = refl; sink_faults = refl; sure = refl }
 
 -- All of them.
 pub all-stored : (files : List NewFile) (old new : FolderModel) (sink : SinkModel) → AllStoredBy (map stored_file files) old new → AreAllStored (map named_text files) (outside old sink) (outside new sink)
@@ -224,14 +224,14 @@ pub record IsSince (before between : Outside) : Type 0 where
   pub faults : before.faults ≤ between.faults
   pub steady : between.steady ≡ before.steady
   pub held : between.held ≡ before.held
-  pub cuts : between.cuts ≡ before.cuts
+  pub sink_faults : between.sink_faults ≡ before.sink_faults
   pub sure : between.sure ≡ before.sure
 
 pub printed-since : (text : List ℕ) (done : ℕ) (before between after : Outside) (status : ℕ) → IsSince before between → IsPrinted text done between after status → IsPrinted text done before after status
 printed-since text done before between after status s (Written is same writes) =
     Written is (same ∙ s.files) (subst (λ z. Writes z after.held text (Ok tt)) s.held writes)
 printed-since text done before between after status s (CutShort four same rises less said) =
-    CutShort four (same ∙ s.files) (subst (λ z. HasRisen z after.cuts) s.cuts rises) (subst (λ z. z < length text) s.sure less) (rw (s.held, s.cuts) at said)
+    CutShort four (same ∙ s.files) (subst (λ z. HasRisen z after.sink_faults) s.sink_faults rises) (subst (λ z. z < length text) s.sure less) (rw (s.held, s.sink_faults) at said)
 
 stored-since : (x : NamedText) (before between next : Outside) → IsSince before between → IsStored x between next → IsStored x before next
 stored-since x before between next s h = let kept = s.faults in let more = h.faults in record {
@@ -239,15 +239,15 @@ stored-since x before between next s h = let kept = s.faults in let more = h.fau
   faults = omega arith;
   steady = h.steady ∙ s.steady;
   held = h.held ∙ s.held;
-  cuts = h.cuts ∙ s.cuts;
+  sink_faults = h.sink_faults ∙ s.sink_faults;
   sure = h.sure ∙ s.sure;
 }
 
 not-stored-since : (x : NamedText) (before between after : Outside) (status : ℕ) → IsSince before between → IsNotStored x between after status → IsNotStored x before after status
 not-stored-since x before between after status s (Unwritten four stores rises unsteady said) =
-    Unwritten four (subst (λ z. Stores z after.files x.name x.text (Err Failed)) s.files stores) (rises-before before.faults between.faults after.faults s.faults rises) (λ steady. unsteady (s.steady ∙ steady)) (rw (s.held, s.cuts) at said)
+    Unwritten four (subst (λ z. Stores z after.files x.name x.text (Err Failed)) s.files stores) (rises-before before.faults between.faults after.faults s.faults rises) (λ steady. unsteady (s.steady ∙ steady)) (rw (s.held, s.sink_faults) at said)
 not-stored-since x before between after status s (NoRoom eight stores said) =
-    NoRoom eight (subst (λ z. Stores z after.files x.name x.text (Err NoMemory)) s.files stores) (rw (s.held, s.cuts) at said)
+    NoRoom eight (subst (λ z. Stores z after.files x.name x.text (Err NoMemory)) s.files stores) (rw (s.held, s.sink_faults) at said)
 
 pub delivers-since : (xs : List NamedText) (summary : List ℕ) (done : ℕ) (before between after : Outside) (status : ℕ) → Delivers xs summary done between after status → IsSince before between → Delivers xs summary done before after status
 delivers-since [] summary done before between after status d s = printed-since summary done before between after status s d

@@ -24,7 +24,7 @@ use Rattle.commands.proofs.Statuses.{off, one-of}
 pub stopped-statuses : (names : InputNames) (before after : Outside) (status : ℕ) → IsHalted names before after status → IsTrue (is_in (3 ∷ 5 ∷ 8 ∷ []) status)
 stopped-statuses names before after status h = by h.stop h.explains
   where
-    by : (stop : Stop) → ExplainsHalt names stop before.held after.held before.cuts after.cuts status → IsTrue (is_in (3 ∷ 5 ∷ 8 ∷ []) status)
+    by : (stop : Stop) → ExplainsHalt names stop before.held after.held before.sink_faults after.sink_faults status → IsTrue (is_in (3 ∷ 5 ∷ 8 ∷ []) status)
     by (CannotRead input) e = one-of (3 ∷ 5 ∷ 8 ∷ []) status 3 e.0 refl
     by (Refused why) e = one-of (3 ∷ 5 ∷ 8 ∷ []) status 5 e.0 refl
     by NoMemory e = one-of (3 ∷ 5 ∷ 8 ∷ []) status 8 e.0 refl
@@ -32,7 +32,7 @@ stopped-statuses names before after status h = by h.stop h.explains
 pub stopped-unread : (names : InputNames) (before after : Outside) (status : ℕ) → IsHalted names before after status → status ≡ 3 → HasRisen before.faults after.faults
 stopped-unread names before after status h three = by h.stop h.counted.rises h.explains
   where
-    by : (stop : Stop) → RisesAt {A = Inputs} before.faults after.faults (Err stop) → ExplainsHalt names stop before.held after.held before.cuts after.cuts status → HasRisen before.faults after.faults
+    by : (stop : Stop) → RisesAt {A = Inputs} before.faults after.faults (Err stop) → ExplainsHalt names stop before.held after.held before.sink_faults after.sink_faults status → HasRisen before.faults after.faults
     by (CannotRead input) rises e = rises
     by (Refused why) rises e = let five = e.0 in absurd (omega arith)
     by NoMemory rises e = let eight = e.0 in absurd (omega arith)
@@ -40,7 +40,7 @@ stopped-unread names before after status h three = by h.stop h.counted.rises h.e
 pub stopped-memory : (names : InputNames) (before after : Outside) (status : ℕ) → IsHalted names before after status → status ≡ 8 → IsLinePrinted before after memory_line
 stopped-memory names before after status h eight = by h.stop h.explains
   where
-    by : (stop : Stop) → ExplainsHalt names stop before.held after.held before.cuts after.cuts status → IsLinePrinted before after memory_line
+    by : (stop : Stop) → ExplainsHalt names stop before.held after.held before.sink_faults after.sink_faults status → IsLinePrinted before after memory_line
     by (CannotRead input) e = let three = e.0 in absurd (omega arith)
     by (Refused why) e = let five = e.0 in absurd (omega arith)
     by NoMemory e = e.1
@@ -66,7 +66,7 @@ pub refused-cause : (names : InputNames) (before after : Outside) (status : ℕ)
     (why : Refusal) × (inputs_of files names ≡ Err (Refused why)) × IsLinePrinted before after (refusal_line names why)
 refused-cause names before after status files (Halted h) modelled five = by h.stop (h.modelled files modelled) h.explains
   where
-    by : (stop : Stop) → Agrees {A = Inputs} {B = Inputs} (λ i. i) before.steady (inputs_of files names) (Err stop) → ExplainsHalt names stop before.held after.held before.cuts after.cuts status →
+    by : (stop : Stop) → Agrees {A = Inputs} {B = Inputs} (λ i. i) before.steady (inputs_of files names) (Err stop) → ExplainsHalt names stop before.held after.held before.sink_faults after.sink_faults status →
         (why : Refusal) × (inputs_of files names ≡ Err (Refused why)) × IsLinePrinted before after (refusal_line names why)
     by (CannotRead input) agrees e = let three = e.0 in absurd (omega arith)
     by (Refused why) agrees e = (why, agrees, e.1)
@@ -78,7 +78,7 @@ refused-cause names before after status files (Went inputs are on) modelled five
 pub unread-line : (names : InputNames) (before after : Outside) (status : ℕ) → Reading names before after status → status ≡ 3 → (input : Input) × IsLinePrinted before after (unread_line (name_of names input))
 unread-line names before after status (Halted h) three = by h.stop h.explains
   where
-    by : (stop : Stop) → ExplainsHalt names stop before.held after.held before.cuts after.cuts status → (input : Input) × IsLinePrinted before after (unread_line (name_of names input))
+    by : (stop : Stop) → ExplainsHalt names stop before.held after.held before.sink_faults after.sink_faults status → (input : Input) × IsLinePrinted before after (unread_line (name_of names input))
     by (CannotRead input) e = (input, e.1)
     by (Refused why) e = let five = e.0 in absurd (omega arith)
     by NoMemory e = let eight = e.0 in absurd (omega arith)
@@ -92,7 +92,7 @@ stops-at names before after status files why (Halted h) modelled is = by h.stop 
     other : (i : Input) → err (Refused why) ≡ err (CannotRead i) → ⊥
     other i e = cc
 
-    by : (stop : Stop) → Agrees {A = Inputs} {B = Inputs} (λ i. i) before.steady (inputs_of files names) (Err stop) → ExplainsHalt names stop before.held after.held before.cuts after.cuts status → IsStatusOr 5 before status
+    by : (stop : Stop) → Agrees {A = Inputs} {B = Inputs} (λ i. i) before.steady (inputs_of files names) (Err stop) → ExplainsHalt names stop before.held after.held before.sink_faults after.sink_faults status → IsStatusOr 5 before status
     by (CannotRead input) agrees e = inr (inr (e.0, λ steady. other input (sym is ∙ agrees steady)))
     by (Refused cause) agrees e = inl e.0
     by NoMemory agrees e = inr (inl e.0)
@@ -102,7 +102,7 @@ stops-at names before after status files why (Went inputs are on) modelled is = 
 pub read-there : (names : InputNames) (before after : Outside) (status : ℕ) (files : List StoredFile) → Reading names before after status → before.files ≡ Some files → before.steady ≡ true → AreInputsPresent files names → status ≢ 3
 read-there names before after status files (Halted h) modelled steady there = by h.stop (h.modelled files modelled) h.explains
   where
-    by : (stop : Stop) → Agrees {A = Inputs} {B = Inputs} (λ i. i) before.steady (inputs_of files names) (Err stop) → ExplainsHalt names stop before.held after.held before.cuts after.cuts status → status ≢ 3
+    by : (stop : Stop) → Agrees {A = Inputs} {B = Inputs} (λ i. i) before.steady (inputs_of files names) (Err stop) → ExplainsHalt names stop before.held after.held before.sink_faults after.sink_faults status → status ≢ 3
     by (CannotRead input) agrees e = absurd (can-read files names input there (agrees steady))
     by (Refused why) agrees e = let five = e.0 in λ three. omega arith
     by NoMemory agrees e = let eight = e.0 in λ three. omega arith
@@ -119,7 +119,7 @@ missing-one names before after status files input (Halted h) modelled steady is 
     other : (why : Refusal) → err (Refused why) ≡ err (CannotRead input) → ⊥
     other why e = cc
 
-    by : (stop : Stop) → Agrees {A = Inputs} {B = Inputs} (λ i. i) before.steady (inputs_of files names) (Err stop) → ExplainsHalt names stop before.held after.held before.cuts after.cuts status →
+    by : (stop : Stop) → Agrees {A = Inputs} {B = Inputs} (λ i. i) before.steady (inputs_of files names) (Err stop) → ExplainsHalt names stop before.held after.held before.sink_faults after.sink_faults status →
         (status ≡ 8) ⊎ ((status ≡ 3) × IsLinePrinted before after (unread_line (name_of names input)))
     by (CannotRead i) agrees e = inr (e.0, subst (λ z. IsLinePrinted before after (unread_line (name_of names z))) (same i (sym (agrees steady) ∙ is)) e.1)
     by (Refused why) agrees e = absurd (other why (sym agrees ∙ is))
@@ -131,7 +131,7 @@ missing-one names before after status files input (Went inputs are on) modelled 
 pub halted-held : (names : InputNames) (before after : Outside) (status n : ℕ) (files : List StoredFile) (inputs : Inputs) → IsHalted names before after status → before.files ≡ Some files → inputs_of files names ≡ Ok inputs → IsStatusOr n before status
 halted-held names before after status n files inputs h modelled is = by h.stop (h.modelled files modelled) h.explains
   where
-    by : (stop : Stop) → Agrees {A = Inputs} {B = Inputs} (λ i. i) before.steady (inputs_of files names) (Err stop) → ExplainsHalt names stop before.held after.held before.cuts after.cuts status → IsStatusOr n before status
+    by : (stop : Stop) → Agrees {A = Inputs} {B = Inputs} (λ i. i) before.steady (inputs_of files names) (Err stop) → ExplainsHalt names stop before.held after.held before.sink_faults after.sink_faults status → IsStatusOr n before status
     by (CannotRead input) agrees e = inr (inr (e.0, λ steady. not-both inputs (CannotRead input) (sym is ∙ agrees steady)))
     by (Refused why) agrees e = absurd (not-both inputs (Refused why) (sym is ∙ agrees))
     by NoMemory agrees e = inr (inl e.0)

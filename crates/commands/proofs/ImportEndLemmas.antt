@@ -101,14 +101,14 @@ settling inputs rec step text (Err why) a own settled backed is = is
 
 -- The log was not loaded.
 pub no-log : (names : ImportNames) (before after : Outside) (status : ℕ) (found : Option Record) (inputs : Inputs) (rec : Record) (why : LoadErr) → IsShown names.shown before inputs rec → open_fault (step_numbered rec.steps names.step) ≡ None
-    → IsFileRead before.files before.steady before.faults after.faults names.proof (Err why) → ExplainsLoad names.proof why before.held after.held before.cuts after.cuts status
+    → IsFileRead before.files before.steady before.faults after.faults names.proof (Err why) → ExplainsLoad names.proof why before.held after.held before.sink_faults after.sink_faults status
     → found ≡ None → after.files ≡ before.files → ImportEnds names before after status found
 no-log names before after status found inputs rec Failed s is h e none files = NoLog inputs rec s is (Unloaded e.0 h.0 h.1 e.1) none files
 no-log names before after status found inputs rec TooLong s is h e none files = NoLog inputs rec s is (LongText e.0 h e.1) none files
 no-log names before after status found inputs rec NoLoad s is h e none files = ImportOutOfMemory (record { status_is = e.0; found_is = none; line = e.1; files = files })
 
 -- The folder's fault count rose only at status 3.
-pub no-log-counted : (name : List ℕ) (before after : Outside) (status : ℕ) (why : LoadErr) → ExplainsLoad name why before.held after.held before.cuts after.cuts status → (why ≢ Failed → after.faults ≡ before.faults) → AreFaultsCounted before after status
+pub no-log-counted : (name : List ℕ) (before after : Outside) (status : ℕ) (why : LoadErr) → ExplainsLoad name why before.held after.held before.sink_faults after.sink_faults status → (why ≢ Failed → after.faults ≡ before.faults) → AreFaultsCounted before after status
 no-log-counted name before after status Failed e stands = record {
   folder = λ h. absurd (true≢false (sym (one-of (3 ∷ 4 ∷ []) status 3 e.0 refl) ∙ h));
   sink = λ h. absurd (off (0 ∷ 1 ∷ 11 ∷ []) status 3 h e.0 refl);
@@ -118,7 +118,7 @@ no-log-counted name before after status NoLoad e stands = record { folder = λ h
 
 -- The log settled nothing.
 pub not-settled : (names : ImportNames) (before after : Outside) (status : ℕ) (found : Option Record) (inputs : Inputs) (rec : Record) (log : List ℕ) (why : SettleErr) → IsShown names.shown before inputs rec → open_fault (step_numbered rec.steps names.step) ≡ None
-    → IsFileHeld names.proof before log → SettleFails why (settled_text inputs.book rec names.step log) → ExplainsLog names.proof why before.held after.held before.cuts after.cuts status
+    → IsFileHeld names.proof before log → SettleFails why (settled_text inputs.book rec names.step log) → ExplainsLog names.proof why before.held after.held before.sink_faults after.sink_faults status
     → found ≡ None → after.files ≡ before.files → ImportEnds names before after status found
 not-settled names before after status found inputs rec log (Unread why) s is held h e none files = NotSettled inputs rec log (Unread why) s is held h e.0 none e.1 files
 not-settled names before after status found inputs rec log NoRefutation s is held h e none files = NotSettled inputs rec log NoRefutation s is held h e.0 none e.1 files
@@ -137,28 +137,28 @@ no-open-step names before between after status found inputs rec fault s is ten n
     NoOpenStep inputs rec fault s is ten none (subst (λ (b : Outside). IsLinePrinted b after (step_line names.step fault)) same said) (files ∙ ap (λ (o : Outside). o.files) same)
 
 pub no-log-since : (names : ImportNames) (before between after : Outside) (status said : ℕ) (found : Option Record) (inputs : Inputs) (rec : Record) (why : LoadErr) → IsShown names.shown before inputs rec → open_fault (step_numbered rec.steps names.step) ≡ None
-    → between ≡ before → IsFileRead between.files between.steady between.faults after.faults names.proof (Err why) → ExplainsLoad names.proof why between.held after.held between.cuts after.cuts said
+    → between ≡ before → IsFileRead between.files between.steady between.faults after.faults names.proof (Err why) → ExplainsLoad names.proof why between.held after.held between.sink_faults after.sink_faults said
     → status ≡ said → found ≡ None → after.files ≡ between.files → ImportEnds names before after status found
 no-log-since names before between after status said found inputs rec why s is same h e status_is none files =
     no-log names before after status found inputs rec why s is
     (subst (λ (b : Outside). IsFileRead b.files b.steady b.faults after.faults names.proof (Err why)) same h)
-    (subst (λ (b : Outside). ExplainsLoad names.proof why b.held after.held b.cuts after.cuts status) same (subst (ExplainsLoad names.proof why between.held after.held between.cuts after.cuts) (sym status_is) e))
+    (subst (λ (b : Outside). ExplainsLoad names.proof why b.held after.held b.sink_faults after.sink_faults status) same (subst (ExplainsLoad names.proof why between.held after.held between.sink_faults after.sink_faults) (sym status_is) e))
     none (files ∙ ap (λ (o : Outside). o.files) same)
 
-pub no-log-counted-since : (name : List ℕ) (before between after : Outside) (status said : ℕ) (why : LoadErr) → between ≡ before → ExplainsLoad name why between.held after.held between.cuts after.cuts said → status ≡ said
+pub no-log-counted-since : (name : List ℕ) (before between after : Outside) (status said : ℕ) (why : LoadErr) → between ≡ before → ExplainsLoad name why between.held after.held between.sink_faults after.sink_faults said → status ≡ said
     → (why ≢ Failed → after.faults ≡ between.faults) → AreFaultsCounted before after status
 no-log-counted-since name before between after status said why same e status_is stands =
     no-log-counted name before after status why
-    (subst (λ (b : Outside). ExplainsLoad name why b.held after.held b.cuts after.cuts status) same (subst (ExplainsLoad name why between.held after.held between.cuts after.cuts) (sym status_is) e))
+    (subst (λ (b : Outside). ExplainsLoad name why b.held after.held b.sink_faults after.sink_faults status) same (subst (ExplainsLoad name why between.held after.held between.sink_faults after.sink_faults) (sym status_is) e))
     (λ not. stands not ∙ ap (λ (o : Outside). o.faults) same)
 
 pub not-settled-since : (names : ImportNames) (before between after : Outside) (status said : ℕ) (found : Option Record) (inputs : Inputs) (rec : Record) (log : List ℕ) (why : SettleErr) → IsShown names.shown before inputs rec → open_fault (step_numbered rec.steps names.step) ≡ None
-    → between ≡ before → IsFileHeld names.proof between log → SettleFails why (settled_text inputs.book rec names.step log) → ExplainsLog names.proof why between.held after.held between.cuts after.cuts said
+    → between ≡ before → IsFileHeld names.proof between log → SettleFails why (settled_text inputs.book rec names.step log) → ExplainsLog names.proof why between.held after.held between.sink_faults after.sink_faults said
     → status ≡ said → found ≡ None → after.files ≡ between.files → ImportEnds names before after status found
 not-settled-since names before between after status said found inputs rec log why s is same held h e status_is none files =
     not-settled names before after status found inputs rec log why s is
     (subst (λ (b : Outside). IsFileHeld names.proof b log) same held) h
-    (subst (λ (b : Outside). ExplainsLog names.proof why b.held after.held b.cuts after.cuts status) same (subst (ExplainsLog names.proof why between.held after.held between.cuts after.cuts) (sym status_is) e))
+    (subst (λ (b : Outside). ExplainsLog names.proof why b.held after.held b.sink_faults after.sink_faults status) same (subst (ExplainsLog names.proof why between.held after.held between.sink_faults after.sink_faults) (sym status_is) e))
     none (files ∙ ap (λ (o : Outside). o.files) same)
 
 -- The log settled the step, and the new record was delivered.

@@ -77,7 +77,7 @@ unread-begun inputs text NoRoom is = tt
 pub prefix-unloaded : (names : ResumeNames) (before after : Outside) (status : ℕ) (found : Option Record) (inputs : Inputs) (why : LoadErr) (modelled : Option (List StoredFile)) (steady : Bool) (faults come : ℕ) →
     AreInputsOf names.run_files.inputs before inputs → modelled ≡ before.files → steady ≡ before.steady → before.faults ≤ faults →
     IsTextRead inputs modelled steady faults after.faults come names.prefix (Err why) →
-    ExplainsLoad names.prefix why before.held after.held before.cuts after.cuts status →
+    ExplainsLoad names.prefix why before.held after.held before.sink_faults after.sink_faults status →
     found ≡ None → after.files ≡ before.files → ResumeEnds names before after status found
 prefix-unloaded names before after status found inputs Failed modelled steady faults come are is same kept h e none files =
     PrefixNotLoaded inputs are (Unloaded e.0 (rises-before before.faults faults after.faults kept h.0) (λ own at still. h.1 own (is ∙ at) (same ∙ still)) e.1) none files
@@ -89,7 +89,7 @@ prefix-unloaded names before after status found inputs NoLoad modelled steady fa
 -- The ending of a beginning that no auction continues.
 pub not-begun : (names : ResumeNames) (before after : Outside) (status : ℕ) (found : Option Record) (inputs : Inputs) (text : List ℕ) (why : RecordErr) →
     AreInputsOf names.run_files.inputs before inputs → CanBeNamed inputs → IsTextHeld (resume_input_names names) before text → IsResumption inputs (begun inputs text) (Err why) →
-    ExplainsRecordErr names.prefix why before.held after.held before.cuts after.cuts status →
+    ExplainsRecordErr names.prefix why before.held after.held before.sink_faults after.sink_faults status →
     found ≡ None → after.files ≡ before.files → ResumeEnds names before after status found
 not-begun names before after status found inputs text (Fault fault) are can held is e none files = PrefixRejected inputs text fault are can held is e.0 none e.1 files
 not-begun names before after status found inputs text NoMemory are can held is e none files =

@@ -17,13 +17,13 @@ use Rattle.commands.proofs.EndLemmas.{ended-order}
 pub starved-since : (before between after : Outside) (status : ℕ) (found : Option Record) → IsSince before between → EndsOutOfMemory between after status found → EndsOutOfMemory before after status found
 starved-since before between after status found s h =
     let said = h.line in
-    record { status_is = h.status_is; found_is = h.found_is; line = rw (s.held, s.cuts) at said; files = h.files ∙ s.files }
+    record { status_is = h.status_is; found_is = h.found_is; line = rw (s.held, s.sink_faults) at said; files = h.files ∙ s.files }
 
 -- The auction concludes after the reading.
 pub concludes-since : (order : Order) (names : RunNames) (inputs : Inputs) (rec : Record) (before between after : Outside) (status : ℕ) (found : Option Record) → IsSince before between →
     Concludes order names inputs rec between after status found → Concludes order names inputs rec before after status found
-concludes-since order names inputs rec before between after status found s (Unfit of six kept said same) = Unfit of six kept (rw (s.held, s.cuts) at said) (same ∙ s.files)
-concludes-since order names inputs rec before between after status found s (StartOpen of seven kept said same) = StartOpen of seven kept (rw (s.held, s.cuts) at said) (same ∙ s.files)
+concludes-since order names inputs rec before between after status found s (Unfit of six kept said same) = Unfit of six kept (rw (s.held, s.sink_faults) at said) (same ∙ s.files)
+concludes-since order names inputs rec before between after status found s (StartOpen of seven kept said same) = StartOpen of seven kept (rw (s.held, s.sink_faults) at said) (same ∙ s.files)
 concludes-since order names inputs rec before between after status found s (Delivered of can held kept d) =
     Delivered of can held kept (delivers-since (auction_texts order names inputs rec) (summary_in order inputs (undecided_of rec.steps)) (done_status (undecided_of rec.steps)) before between after status d s)
 

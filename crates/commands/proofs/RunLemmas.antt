@@ -275,7 +275,7 @@ module _ (order : Order) (names : RunNames) (before after : Outside) (status : �
       go c four (NotStored x is part rises unsteady said) = unsteady steady
       go c four (OutOfRoom x eight part said) = omega arith
 
-  pub run-unwritten : RunEnds order names before after status found → status ≡ 4 → HasRisen before.faults after.faults ⊎ HasRisen before.cuts after.cuts
+  pub run-unwritten : RunEnds order names before after status found → status ≡ 4 → HasRisen before.faults after.faults ⊎ HasRisen before.sink_faults after.sink_faults
   run-unwritten end four = go c.ended
     where
       c : IsCarried order names before after status found
@@ -284,7 +284,7 @@ module _ (order : Order) (names : RunNames) (before after : Outside) (status : �
       of : IsRecordIn order c.inputs c.rec
       of = c.auction
 
-      go : Ended (auction_texts order names c.inputs c.rec) (summary_in order c.inputs (undecided_of c.rec.steps)) (done_status (undecided_of c.rec.steps)) before after status → HasRisen before.faults after.faults ⊎ HasRisen before.cuts after.cuts
+      go : Ended (auction_texts order names c.inputs c.rec) (summary_in order c.inputs (undecided_of c.rec.steps)) (done_status (undecided_of c.rec.steps)) before after status → HasRisen before.faults after.faults ⊎ HasRisen before.sink_faults after.sink_faults
       go (Both is all writes) = absurd (never (undecided_of c.rec.steps) status 4 is four refl)
       go (NotSaid is all rises less said) = inr rises
       go (NotStored x is part rises unsteady said) = inl rises

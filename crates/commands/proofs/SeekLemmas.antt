@@ -369,7 +369,7 @@ module _ (names : SeekNames) (before after : Outside) (status : ℕ) (found belo
   abbrev IsUnwritten : Type 0
   IsUnwritten =
       (HasRisen before.faults after.faults × (before.steady ≢ true) × IsLinePrinted before after (unwritten_line names.channels))
-      ⊎ ((of : IsTopOf names before found below) × HasRisen before.cuts after.cuts
+      ⊎ ((of : IsTopOf names before found below) × HasRisen before.sink_faults after.sink_faults
       × (before.sure < length (top_text of.x.top of.x.is_open)) × IsLinePrinted before after (top_text of.x.top of.x.is_open)
       × ((files : List StoredFile) → before.files ≡ Some files → MatchOption after.files ⊥ (λ new. AreStored files new (seek_texts names of.x.rec))))
 
@@ -384,14 +384,14 @@ module _ (names : SeekNames) (before after : Outside) (status : ℕ) (found belo
 
       go : Delivers (seek_texts names top.x.rec) (top_text top.x.top top.x.is_open) (top_status top.x.is_open) before after status → IsUnwritten
       go (inl (next, stored, Written is same writes)) = absurd (never top.x.is_open status 4 is four refl)
-      go (inl (next, stored, CutShort is same rises less said)) = inr (top, subst (λ z. HasRisen z after.cuts) stored.cuts rises, subst (λ z. z < length (top_text top.x.top top.x.is_open)) stored.sure less, (rw (stored.held, stored.cuts) at said), λ files modelled. all-more x [] before next after stored (all-none next after same) files modelled (single x))
+      go (inl (next, stored, CutShort is same rises less said)) = inr (top, subst (λ z. HasRisen z after.sink_faults) stored.sink_faults rises, subst (λ z. z < length (top_text top.x.top top.x.is_open)) stored.sure less, (rw (stored.held, stored.sink_faults) at said), λ files modelled. all-more x [] before next after stored (all-none next after same) files modelled (single x))
       go (inr (Unwritten is stores rises unsteady said)) = inl (rises, unsteady, said)
       go (inr (NoRoom eight stores said)) = absurd (omega arith)
 
   seek-wrote : SeekEnds names before after status found below → status ≡ 4 → IsUnwritten
   seek-wrote end four = wrote (reached end (one-of (0 ∷ 1 ∷ 4 ∷ []) status 4 four refl)) four
 
-  pub seek-unwritten : SeekEnds names before after status found below → status ≡ 4 → HasRisen before.faults after.faults ⊎ HasRisen before.cuts after.cuts
+  pub seek-unwritten : SeekEnds names before after status found below → status ≡ 4 → HasRisen before.faults after.faults ⊎ HasRisen before.sink_faults after.sink_faults
   seek-unwritten end four = elim (seek-wrote end four) [
     | inl unstored ↦ inl unstored.0
     | inr without_owners ↦ inr without_owners.1

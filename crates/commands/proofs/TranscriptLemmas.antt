@@ -35,7 +35,7 @@ use Rattle.commands.proofs.MessageLemmas.{rises-before}
 pub unloaded-ends : (names : VerifyNames) (before after : Outside) (status : ℕ) (found : Option Record) (inputs : Inputs) (why : LoadErr) (modelled : Option (List StoredFile)) (steady : Bool) (faults come : ℕ) →
     AreInputsOf names.inputs before inputs → modelled ≡ before.files → steady ≡ before.steady → before.faults ≤ faults →
     IsTextRead inputs modelled steady faults after.faults come names.transcript (Err why) →
-    ExplainsLoad names.transcript why before.held after.held before.cuts after.cuts status →
+    ExplainsLoad names.transcript why before.held after.held before.sink_faults after.sink_faults status →
     found ≡ None → after.files ≡ before.files → VerifyEnds names before after status found
 unloaded-ends names before after status found inputs Failed modelled steady faults come are is same kept h e none files =
     NotLoaded inputs are (Unloaded e.0 (rises-before before.faults faults after.faults kept h.0) (λ own at still. h.1 own (is ∙ at) (same ∙ still)) e.1) none files
@@ -78,7 +78,7 @@ unread-verdict inputs text NoRoom is = tt
 -- The ending without a record.
 pub denied-ends : (names : VerifyNames) (before after : Outside) (status : ℕ) (found : Option Record) (inputs : Inputs) (text : List ℕ) (why : RecordErr) →
     AreInputsOf names.inputs before inputs → CanBeNamed inputs → IsTextHeld names before text → IsVerdict inputs (verified inputs text) (Err why) →
-    ExplainsRecordErr names.transcript why before.held after.held before.cuts after.cuts status →
+    ExplainsRecordErr names.transcript why before.held after.held before.sink_faults after.sink_faults status →
     found ≡ None → after.files ≡ before.files → VerifyEnds names before after status found
 denied-ends names before after status found inputs text (Fault fault) are can held is e none files = NotSound inputs text fault are can held is e.0 none e.1 files
 denied-ends names before after status found inputs text NoMemory are can held is e none files =

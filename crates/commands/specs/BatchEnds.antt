@@ -32,8 +32,8 @@ CountsStop before now (Twice name) = now ≡ before
 
 -- The status and the line for what stopped the reading.
 abbrev pub ExplainsStop : BatchStop → Option (List ℕ) → Option (List ℕ) → ℕ → ℕ → ℕ → Type 0
-ExplainsStop (Unread names why) held held' cuts cuts' status = ExplainsHalt names why held held' cuts cuts' status
-ExplainsStop (Twice name) held held' cuts cuts' status = (status ≡ REFUSED) × PrintsText held held' cuts cuts' (twice_line name)
+ExplainsStop (Unread names why) held held' sink_faults sink_faults' status = ExplainsHalt names why held held' sink_faults sink_faults' status
+ExplainsStop (Twice name) held held' sink_faults sink_faults' status = (status ≡ REFUSED) × PrintsText held held' sink_faults sink_faults' (twice_line name)
 
 -- The names are those of the constraint files with the list, or of the constraint files with the scenario of one of these lines.
 abbrev pub IsUnderOneOf : BatchNames → List ListedNames → InputNames → Type 0
@@ -58,7 +58,7 @@ pub record IsReadingStopped {A : Type 0} (reads : List StoredFile → Result A B
   pub under : StopsUnder Under stop
   pub modelled : (files : List StoredFile) → before.files ≡ Some files → StopsAsHeld before.steady (reads files) stop
   pub counted : CountsStop before.faults after.faults stop
-  pub explains : ExplainsStop stop before.held after.held before.cuts after.cuts status
+  pub explains : ExplainsStop stop before.held after.held before.sink_faults after.sink_faults status
   pub files : after.files ≡ before.files
 
 -- The reading of a batch stopped.

@@ -20,7 +20,7 @@ pub record ModelledCheck (files : List StoredFile) (names : InputNames) (before 
   -- At status 4 the inputs are accepted, and the sink's fault count rose. The sink grew by the counts or by some of them, from
   -- the first byte on. The status is not 4 if the sink guarantees room for the counts.
   pub cut : status ≡ UNWRITTEN →
-      (inputs : Inputs) × (inputs_of files names ≡ Ok inputs) × HasRisen before.cuts after.cuts × IsLinePrinted before after (counts_text inputs)
+      (inputs : Inputs) × (inputs_of files names ≡ Ok inputs) × HasRisen before.sink_faults after.sink_faults × IsLinePrinted before after (counts_text inputs)
   pub surely_counted : ((inputs : Inputs) → inputs_of files names ≡ Ok inputs → length (counts_text inputs) ≤ before.sure) → status ≢ UNWRITTEN
   -- Accepted inputs end at status 0 or 4, unless memory ran out or an unsteady folder failed to read.
   pub counts : (inputs : Inputs) → inputs_of files names ≡ Ok inputs → IsStatusOr DONE before status ⊎ (status ≡ UNWRITTEN)

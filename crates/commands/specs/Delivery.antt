@@ -29,7 +29,7 @@ pub record IsStored (x : NamedText) (before after : Outside) : Type 0 where
   pub faults : before.faults ≤ after.faults
   pub steady : after.steady ≡ before.steady
   pub held : after.held ≡ before.held
-  pub cuts : after.cuts ≡ before.cuts
+  pub sink_faults : after.sink_faults ≡ before.sink_faults
   pub sure : after.sure ≡ before.sure
 
 -- The text was not stored, and the line says so. Either the store failed in a folder that isn't steady, or memory ran out.
@@ -41,15 +41,15 @@ pub data IsNotStored (x : NamedText) (before after : Outside) (status : ℕ) : T
 
 -- The status and the line for a text that was not stored: the file can't be written, or memory ran out.
 abbrev pub ExplainsStore : List ℕ → StoreErr → Option (List ℕ) → Option (List ℕ) → ℕ → ℕ → ℕ → Type 0
-ExplainsStore name Failed held held' cuts cuts' status = (status ≡ UNWRITTEN) × PrintsText held held' cuts cuts' (unwritten_line name)
-ExplainsStore name NoMemory held held' cuts cuts' status = (status ≡ NO_MEMORY) × PrintsText held held' cuts cuts' memory_line
+ExplainsStore name Failed held held' sink_faults sink_faults' status = (status ≡ UNWRITTEN) × PrintsText held held' sink_faults sink_faults' (unwritten_line name)
+ExplainsStore name NoMemory held held' sink_faults sink_faults' status = (status ≡ NO_MEMORY) × PrintsText held held' sink_faults sink_faults' memory_line
 
 -- The text was printed, and the status is `done`. Or the sink failed, without having guaranteed room for the text, and holds the
 -- text or some of it from the first byte on. No file changed.
 pub data IsPrinted (text : List ℕ) (done : ℕ) (before after : Outside) (status : ℕ) : Type 0 where
   Written : status ≡ done → after.files ≡ before.files → Writes before.held after.held text (Ok tt) →
       IsPrinted text done before after status
-  CutShort : status ≡ UNWRITTEN → after.files ≡ before.files → HasRisen before.cuts after.cuts → before.sure < length text →
+  CutShort : status ≡ UNWRITTEN → after.files ≡ before.files → HasRisen before.sink_faults after.sink_faults → before.sure < length text →
       IsLinePrinted before after text → IsPrinted text done before after status
 
 -- What is left outside after these texts are stored in order and then the summary is printed. Either each text was stored and the

@@ -44,11 +44,11 @@ AreInputsOf names before inputs = (files : List StoredFile) → before.files ≡
 
 -- The status and the line for what stopped the reading: an unreadable file, a rejected input, or running out of memory.
 abbrev pub ExplainsHalt : InputNames → Stop → Option (List ℕ) → Option (List ℕ) → ℕ → ℕ → ℕ → Type 0
-ExplainsHalt names (CannotRead input) held held' cuts cuts' status =
-    (status ≡ UNREAD) × PrintsText held held' cuts cuts' (unread_line (name_of names input))
-ExplainsHalt names (Refused why) held held' cuts cuts' status =
-    (status ≡ REFUSED) × PrintsText held held' cuts cuts' (refusal_line names why)
-ExplainsHalt names NoMemory held held' cuts cuts' status = (status ≡ NO_MEMORY) × PrintsText held held' cuts cuts' memory_line
+ExplainsHalt names (CannotRead input) held held' sink_faults sink_faults' status =
+    (status ≡ UNREAD) × PrintsText held held' sink_faults sink_faults' (unread_line (name_of names input))
+ExplainsHalt names (Refused why) held held' sink_faults sink_faults' status =
+    (status ≡ REFUSED) × PrintsText held held' sink_faults sink_faults' (refusal_line names why)
+ExplainsHalt names NoMemory held held' sink_faults sink_faults' status = (status ≡ NO_MEMORY) × PrintsText held held' sink_faults sink_faults' memory_line
 
 -- Reading the inputs stopped. Over modelled files it stopped at what they hold, unless memory ran out or an unsteady folder
 -- failed. The status and a line report the cause, the fault count rose only for an unreadable file, and no file changed.
@@ -57,7 +57,7 @@ pub record IsHalted (names : InputNames) (before after : Outside) (status : ℕ)
   pub modelled : (files : List StoredFile) → before.files ≡ Some files →
       Agrees {A = Inputs} {B = Inputs} (λ i. i) before.steady (inputs_of files names) (Err stop)
   pub counted : CountsFault {A = Inputs} before.faults after.faults (Err stop)
-  pub explains : ExplainsHalt names stop before.held after.held before.cuts after.cuts status
+  pub explains : ExplainsHalt names stop before.held after.held before.sink_faults after.sink_faults status
   pub files : after.files ≡ before.files
 
 -- Status 8 and its line, no record, and no file changed. Whether memory really ran out is not asked.
@@ -117,7 +117,7 @@ pub data CheckEnds (names : InputNames) (before after : Outside) (status : ℕ) 
       Writes before.held after.held (counts_text inputs) (Ok tt) → after.files ≡ before.files →
       CheckEnds names before after status found
   CountsCut : (inputs : Inputs) → AreInputsOf names before inputs → status ≡ UNWRITTEN → found ≡ None →
-      HasRisen before.cuts after.cuts → before.sure < length (counts_text inputs) →
+      HasRisen before.sink_faults after.sink_faults → before.sure < length (counts_text inputs) →
       IsLinePrinted before after (counts_text inputs) → after.files ≡ before.files → CheckEnds names before after status found
 
 -- Where the folder's files are modelled, they hold these sources, and each station of the scenario has a domain row.

@@ -8,4 +8,4 @@ use Rattle.commands.specs.Statuses.{DONE, LEFT_OPEN, UNREAD, UNWRITTEN, SOME_UNS
 -- the sink may have failed at a line.
 pub record AreFaultsCounted (before after : Outside) (status : ℕ) : Type 0 where
   pub folder : IsFalse (is_in (UNREAD ∷ UNWRITTEN ∷ []) status) → after.faults ≡ before.faults
-  pub sink : IsTrue (is_in (DONE ∷ LEFT_OPEN ∷ SOME_UNSTARTED ∷ []) status) → after.cuts ≡ before.cuts
+  pub sink : IsTrue (is_in (DONE ∷ LEFT_OPEN ∷ SOME_UNSTARTED ∷ []) status) → after.sink_faults ≡ before.sink_faults

@@ -108,7 +108,7 @@ pub record IsUnimported (files : List StoredFile) (names : ImportNames) (before 
 pub record IsUnsummed (files : List StoredFile) (names : ImportNames) (before after : Outside) (found : Option Record) : Type 0 where
   pub one : IsSettledStep files names found
   pub stored : AreNewStored one after
-  pub failed : HasRisen before.cuts after.cuts
+  pub failed : HasRisen before.sink_faults after.sink_faults
   pub unsure : before.sure < length (new_summary one)
   pub summary : IsLinePrinted before after (new_summary one)
 
@@ -196,7 +196,7 @@ pub record ImportPromises (names : ImportNames) (before after : Outside) (status
   -- store failed, or both texts are stored and the sink failed at the summary. If memory ran out and there is a record, the texts
   -- are stored up to the one where memory ran out. Status 4 never comes from a steady folder and a sink that guarantees room for
   -- the summary.
-  pub unwritten : status ≡ UNWRITTEN → HasRisen before.faults after.faults ⊎ HasRisen before.cuts after.cuts
+  pub unwritten : status ≡ UNWRITTEN → HasRisen before.faults after.faults ⊎ HasRisen before.sink_faults after.sink_faults
   pub stored : (files : List StoredFile) → before.files ≡ Some files → status ≡ UNWRITTEN →
       IsUnimported files names before after found ⊎ IsUnsummed files names before after found
   pub part_stored : (files : List StoredFile) → before.files ≡ Some files → status ≡ NO_MEMORY → IsSome found →

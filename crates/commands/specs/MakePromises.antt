@@ -62,7 +62,7 @@ pub record IsMakeUnstored (before after : Outside) (found : Option Record) : Typ
 -- summary or by some of it, from the first byte on.
 pub record IsSummaryUnwritten (names : MakeNames) (before after : Outside) (found : Option Record) : Type 0 where
   pub made : IsMakeRun names found
-  pub failed : HasRisen before.cuts after.cuts
+  pub failed : HasRisen before.sink_faults after.sink_faults
   pub unsure : before.sure < length (make_summary made)
   pub summary : IsLinePrinted before after (make_summary made)
 

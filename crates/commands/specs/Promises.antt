@@ -191,7 +191,7 @@ pub record Promises (plan : Plan) (before after : Outside) (status : ℕ) (found
       inputs_of files names ≡ Err (CannotRead input) →
       (status ≡ NO_MEMORY) ⊎ ((status ≡ UNREAD) × IsLinePrinted before after (unread_line (name_of names input)))
   -- At status 4 the fault count of the folder or of the sink rose.
-  pub unwritten : status ≡ UNWRITTEN → HasRisen before.faults after.faults ⊎ HasRisen before.cuts after.cuts
+  pub unwritten : status ≡ UNWRITTEN → HasRisen before.faults after.faults ⊎ HasRisen before.sink_faults after.sink_faults
   -- Without a record no file changes, except under `make` and `export`. At status 6 and 7 no file changes.
   pub untouched : records_first plan ≡ true → found ≡ None → after.files ≡ before.files
   pub unfit_untouched : IsTrue (is_in (START_UNFIT ∷ START_OPEN ∷ []) status) → after.files ≡ before.files

@@ -83,7 +83,7 @@ pub record IsCutShort (order : Order) (files : List StoredFile) (names : RunName
   pub recorded : found ≡ Some rec
   pub auction : IsRecordIn order inputs rec
   pub stored : MatchOption after.files ⊥ (λ new. AreStored files new (auction_texts order names inputs rec))
-  pub failed : HasRisen before.cuts after.cuts
+  pub failed : HasRisen before.sink_faults after.sink_faults
   pub unsure : before.sure < length (summary_in order inputs (undecided_of rec.steps))
   pub summary : IsLinePrinted before after (summary_in order inputs (undecided_of rec.steps))
   pub verifiable : verified inputs (transcript_text inputs.scenario inputs.book rec) ≡ Ok rec

@@ -117,7 +117,7 @@ pub record SeekPromises (names : SeekNames) (before after : Outside) (status : �
   -- are stored. The sink then grew by that text or by some of it, from the first byte on.
   pub unwritten : status ≡ UNWRITTEN →
       (HasRisen before.faults after.faults × (before.steady ≢ true) × IsLinePrinted before after (unwritten_line names.channels))
-      ⊎ ((of : IsTopOf names before found below) × HasRisen before.cuts after.cuts
+      ⊎ ((of : IsTopOf names before found below) × HasRisen before.sink_faults after.sink_faults
       × (before.sure < length (top_text of.x.top of.x.is_open)) × IsLinePrinted before after (top_text of.x.top of.x.is_open)
       × ((files : List StoredFile) → before.files ≡ Some files → MatchOption after.files ⊥ (λ new. AreStored files new (seek_texts names of.x.rec))))
   -- At status 3, 5, 6 and 7 there is no second record.

@@ -40,9 +40,9 @@ IsTextRead inputs modelled steady before now come name (Err NoLoad) = ⊤
 
 -- The status and the line for a transcript that was not loaded.
 abbrev pub ExplainsLoad : List ℕ → LoadErr → Option (List ℕ) → Option (List ℕ) → ℕ → ℕ → ℕ → Type 0
-ExplainsLoad name Failed held held' cuts cuts' status = (status ≡ UNREAD) × PrintsText held held' cuts cuts' (unread_line name)
-ExplainsLoad name TooLong held held' cuts cuts' status = (status ≡ REFUSED) × PrintsText held held' cuts cuts' (long_line name)
-ExplainsLoad name NoLoad held held' cuts cuts' status = (status ≡ NO_MEMORY) × PrintsText held held' cuts cuts' memory_line
+ExplainsLoad name Failed held held' sink_faults sink_faults' status = (status ≡ UNREAD) × PrintsText held held' sink_faults sink_faults' (unread_line name)
+ExplainsLoad name TooLong held held' sink_faults sink_faults' status = (status ≡ REFUSED) × PrintsText held held' sink_faults sink_faults' (long_line name)
+ExplainsLoad name NoLoad held held' sink_faults sink_faults' status = (status ≡ NO_MEMORY) × PrintsText held held' sink_faults sink_faults' memory_line
 
 -- The result of reading the file of this name. On success the bytes are the file's and within the file limit, where the files are
 -- modelled. On failure the fault count rose and a steady folder doesn't have the file, or the file is too long, or memory ran
@@ -66,9 +66,9 @@ not_read NoRoom = NoMemory
 
 -- The status and the line for a transcript without a record.
 abbrev pub ExplainsRecordErr : List ℕ → RecordErr → Option (List ℕ) → Option (List ℕ) → ℕ → ℕ → ℕ → Type 0
-ExplainsRecordErr name (Fault fault) held held' cuts cuts' status =
-    (status ≡ NOT_SHOWN) × PrintsText held held' cuts cuts' (fault_line name fault)
-ExplainsRecordErr name NoMemory held held' cuts cuts' status = (status ≡ NO_MEMORY) × PrintsText held held' cuts cuts' memory_line
+ExplainsRecordErr name (Fault fault) held held' sink_faults sink_faults' status =
+    (status ≡ NOT_SHOWN) × PrintsText held held' sink_faults sink_faults' (fault_line name fault)
+ExplainsRecordErr name NoMemory held held' sink_faults sink_faults' status = (status ≡ NO_MEMORY) × PrintsText held held' sink_faults sink_faults' memory_line
 
 -- The answer is what the definitions make of the transcript: its record, which is of the auction of the inputs, or its first
 -- fault. Memory may run out.
@@ -81,11 +81,11 @@ IsVerdict inputs wanted (Err NoMemory) = ⊤
 
 -- The status and the line for a log that settled nothing.
 abbrev pub ExplainsLog : List ℕ → SettleErr → Option (List ℕ) → Option (List ℕ) → ℕ → ℕ → ℕ → Type 0
-ExplainsLog name (settle.Unread why) held held' cuts cuts' status =
-    (status ≡ NOT_SETTLED) × PrintsText held held' cuts cuts' (unsettled_line name (settle.Unread why))
-ExplainsLog name settle.NoRefutation held held' cuts cuts' status =
-    (status ≡ NOT_SETTLED) × PrintsText held held' cuts cuts' (unsettled_line name settle.NoRefutation)
-ExplainsLog name settle.NoMemory held held' cuts cuts' status = (status ≡ NO_MEMORY) × PrintsText held held' cuts cuts' memory_line
+ExplainsLog name (settle.Unread why) held held' sink_faults sink_faults' status =
+    (status ≡ NOT_SETTLED) × PrintsText held held' sink_faults sink_faults' (unsettled_line name (settle.Unread why))
+ExplainsLog name settle.NoRefutation held held' sink_faults sink_faults' status =
+    (status ≡ NOT_SETTLED) × PrintsText held held' sink_faults sink_faults' (unsettled_line name settle.NoRefutation)
+ExplainsLog name settle.NoMemory held held' sink_faults sink_faults' status = (status ≡ NO_MEMORY) × PrintsText held held' sink_faults sink_faults' memory_line
 
 -- The answer is what the definitions make of the log: the record with the step settled, or the log's fault. The record is of the
 -- auction of the inputs. Memory may run out.

@@ -75,7 +75,7 @@ pub record VerifyPromises (names : VerifyNames) (before after : Outside) (status
       (v : IsVerified files names found) × (status ≡ done_status (undecided_of v.rec.steps))
       × Writes before.held after.held (verified_text v) (Ok tt)
   pub cut : (files : List StoredFile) → before.files ≡ Some files → status ≡ UNWRITTEN →
-      (v : IsVerified files names found) × HasRisen before.cuts after.cuts × (before.sure < length (verified_text v))
+      (v : IsVerified files names found) × HasRisen before.sink_faults after.sink_faults × (before.sure < length (verified_text v))
       × IsLinePrinted before after (verified_text v)
   pub recorded : IsTrue (is_in (DONE ∷ LEFT_OPEN ∷ UNWRITTEN ∷ []) status) →
       (inputs : Inputs) × (rec : Record) × AreInputsOf names.inputs before inputs × (found ≡ Some rec) × IsRecordIn rec.order inputs rec
@@ -136,7 +136,7 @@ pub record VerifyPromises (names : VerifyNames) (before after : Outside) (status
       (status ≡ NO_MEMORY) ⊎ ((status ≡ UNREAD) × IsLinePrinted before after (unread_line names.transcript))
   -- At status 4 the sink's fault count rose. Over modelled files the status is not 4 if the sink guarantees room for the result
   -- of every record that the transcript could show.
-  pub unwritten : status ≡ UNWRITTEN → HasRisen before.cuts after.cuts
+  pub unwritten : status ≡ UNWRITTEN → HasRisen before.sink_faults after.sink_faults
   pub surely_printed : (files : List StoredFile) → before.files ≡ Some files →
       ((inputs : Inputs) (text : List ℕ) (rec : Record) → IsGiven files names inputs text → verified inputs text ≡ Ok rec →
       length (result_of rec.order inputs (undecided_of rec.steps)) ≤ before.sure) → status ≢ UNWRITTEN

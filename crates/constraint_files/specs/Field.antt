@@ -18,6 +18,6 @@ unfoldable pub numbers : List (List ℕ) → Option (List ℕ)
 numbers [] = Some []
 numbers (field ∷ fields) = option_and_then (λ n. option_and_then (λ ns. Some (n ∷ ns)) (numbers fields)) (number field)
 
--- Whether a file may name the channel.
+-- Whether a file may name the channel: 2 to 51. A domain keeps only those from 14 on.
 abbrev pub is_channel : ℕ → Bool
 is_channel c = nat_le 2 c && nat_le c GREATEST_CHANNEL

@@ -70,7 +70,8 @@ pub record PairsView : Type 0 where
   pub self_pairs : ℕ
   pub strangers : ℕ
 
--- The contents with the pair of a row's station and t, if each of the two has its channel in its domain.
+-- The contents with the pair of a row's station and t. The pair is only counted if one of the two has no domain row, and dropped if
+-- one has its channel not in its domain.
 abbrev pub with_kept : Option (List ℕ) → Option (List ℕ) → Row → PairsView → ℕ → PairsView
 with_kept None theirs row pairs_view t = record { list = pairs_view.list; self_pairs = pairs_view.self_pairs; strangers = pairs_view.strangers + 1 }
 with_kept (Some own) None row pairs_view t = record { list = pairs_view.list; self_pairs = pairs_view.self_pairs; strangers = pairs_view.strangers + 1 }

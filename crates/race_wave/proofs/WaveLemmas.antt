@@ -23,12 +23,12 @@ use Rattle.answer_board.specs.Boards.{raised}
 use Rattle.answer_board.specs.Posts.{LookIs, SeesState, is_faultless}
 use Rattle.turn_lock.proofs.Lists.{all_more}
 use Rattle.race_wave.specs.Watches.{IsNumberAfter}
-use Rattle.race_wave.specs.Wave.{HasPosted, HasNothingLeft, SaysValid, is_last_reply}
+use Rattle.race_wave.specs.Wave.{HasPosted, HasNothingLeft, SaysValid, ends_turn}
 
-turned-last : (a b c : Bool) (n : ℕ) (reply : Reply) → (if a then Some Ended else (if not b then Some (WrongQuery n) else (if c then Some Stranger else None))) ≡ Some reply → is_last_reply reply ≡ true → a ≡ true
+turned-last : (a b c : Bool) (n : ℕ) (reply : Reply) → (if a then Some Ended else (if not b then Some (WrongQuery n) else (if c then Some Stranger else None))) ≡ Some reply → ends_turn reply ≡ true → a ≡ true
 turned-last true b c n reply e l = refl
-turned-last false false c n reply e l = let same : WrongQuery n ≡ reply = cc in absurd (false≢true (ap is_last_reply same ∙ l))
-turned-last false true true n reply e l = let same : Stranger ≡ reply = cc in absurd (false≢true (ap is_last_reply same ∙ l))
+turned-last false false c n reply e l = let same : WrongQuery n ≡ reply = cc in absurd (false≢true (ap ends_turn same ∙ l))
+turned-last false true true n reply e l = let same : Stranger ≡ reply = cc in absurd (false≢true (ap ends_turn same ∙ l))
 turned-last false true false n reply e l = cc
 
 pub noted-now : (x : NotedSpent) (ns : List NotedSpent) → is_noted (noted_with x ns) x.worker ≡ true
@@ -39,9 +39,9 @@ noted-now x (n ∷ ns) = elim (cases_Bool (nat_lt x.worker n.worker)) [
 ]
 
 -- A posting with such a reply leaves its worker nothing to do.
-pub rests : (sc : Scenario) (book : BookView) (state : CoreState) (p : PostingView) → is_last_reply (take sc book state p).0 ≡ true → HasNothingLeft p.worker (take sc book state p).1
+pub rests : (sc : Scenario) (book : BookView) (state : CoreState) (p : PostingView) → ends_turn (take sc book state p).0 ≡ true → HasNothingLeft p.worker (take sc book state p).1
 rests sc book state p =
-    take-cases sc book state p (λ out. take sc book state p ≡ out → is_last_reply out.0 ≡ true → HasNothingLeft p.worker out.1) (record {
+    take-cases sc book state p (λ out. take sc book state p ≡ out → ends_turn out.0 ≡ true → HasNothingLeft p.worker out.1) (record {
       turned = λ reply t e l. inl (turned-last (has_ended state) (p.number == state.number) (nat_le (length sc.workers) p.worker) state.number reply t l);
       rejected = λ place t f e l. absurd (false≢true l);
       fit = λ delta t f a e l. absurd (false≢true l);

@@ -33,14 +33,14 @@ abbrev pub HasNothingLeft : ℕ → CoreState → Type 0
 HasNothingLeft w state = (has_ended state ≡ true) ⊎ (is_noted state.noted w ≡ true)
 
 -- Whether the worker has nothing left to do after this reply.
-abbrev pub is_last_reply : Reply → Bool
-is_last_reply Ended = true
-is_last_reply (WrongQuery now) = false
-is_last_reply Stranger = false
-is_last_reply (Rejected place) = false
-is_last_reply (Advanced next) = false
-is_last_reply AlreadySpent = true
-is_last_reply Noted = true
+abbrev pub ends_turn : Reply → Bool
+ends_turn Ended = true
+ends_turn (WrongQuery now) = false
+ends_turn Stranger = false
+ends_turn (Rejected place) = false
+ends_turn (Advanced next) = false
+ends_turn AlreadySpent = true
+ends_turn Noted = true
 
 -- Whether the list continues the old one with entries of known workers that were not rejected.
 pub record HasPosted (old new : List (ℕ × EntryView)) : Type 0 where

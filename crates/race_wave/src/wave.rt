@@ -10,7 +10,7 @@ ghost use Rattle.answer_board.specs.Posts.{WasCurrent};
 ghost use Rattle.cert_types.specs.Valid.{IsValid};
 ghost use Rattle.pack_defs.specs.declared.worker.Worker.{Worker};
 ghost use Rattle.race_wave.specs.Watches.{IsNumberAfter};
-ghost use Rattle.race_wave.specs.Wave.{HasRaced, SeesNothingLeft, IsRunner, IsSamePass, SaysValid, is_last_reply};
+ghost use Rattle.race_wave.specs.Wave.{HasRaced, SeesNothingLeft, IsRunner, IsSamePass, SaysValid, ends_turn};
 
 use crate::board_poll::BoardPoll;
 use crate::runner::Runner;
@@ -269,15 +269,15 @@ fn post_through_gate<G: Gate, W: Wait>(
         return Err(NoMemory);
     };
     gate.at(Spot::AfterPost, worker, number);
-    if is_last_reply(reply) {
+    if ends_turn(reply) {
         return Ok(NextMove::LeaveWave);
     }
     Ok(NextMove::LookAgain)
 }
 
 // Whether a worker has nothing left to do after this reply.
-fn is_last_reply(reply: Reply) -> bool
-    ensures { result ≡ is_last_reply reply }
+fn ends_turn(reply: Reply) -> bool
+    ensures { result ≡ ends_turn reply }
 {
     match reply {
         Reply::Ended | Reply::AlreadySpent | Reply::Noted => true,

@@ -19,7 +19,8 @@ use Rattle.cert_types.specs.declared.answer.Refutation.TheVariants.{Dead}
 use Rattle.cert_types.specs.declared.answer.Receipt.TheVariants.{Moves}
 use Rattle.cert_types.specs.Query.{IsQuery, has_channels, is_on_domains}
 use Rattle.cert_types.specs.Refutes.{is_dead}
-use Rattle.cert_types.specs.Valid.{IsValid, learns}
+use Rattle.cert_types.specs.Valid.{IsValid}
+use Rattle.pack_defs.specs.Scenario.{learns}
 use Rattle.cert_types.specs.Moves.{AreSpentMoves, least_of, start_map, violates_some}
 use Rattle.cert_types.proofs.Meaning.{means-dead, means-fit, means-moves}
 use Rattle.cert_types.proofs.QueryLaws.{query-parts}

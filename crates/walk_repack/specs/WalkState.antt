@@ -9,7 +9,8 @@ use Rattle.assign_check.specs.Fault.{is_violated}
 use Rattle.pack_defs.specs.declared.worker.Worker.{Worker}
 use Rattle.cert_types.specs.declared.answer.Answer.{Answer}
 use Rattle.cert_types.specs.declared.task.Task.{Task}
-use Rattle.cert_types.specs.Valid.{IsValid, learns}
+use Rattle.cert_types.specs.Valid.{IsValid}
+use Rattle.pack_defs.specs.Scenario.{learns}
 use Rattle.cert_types.specs.Moves.{AreSpentMoves, start_map, violates_some}
 
 -- A walk: its book, the map from which it starts, the moves since then, and the map that they lead to.

@@ -2,7 +2,7 @@
 //! pair is violated or its budget of moves is spent.
 //!
 //! The search keeps every station on air and minimises violated pairs. A station may not return to a channel for some moves after
-//! leaving it; such tabu lists are used in PartialCol (Blöchliger and Zufferey 2008). Local search for station repacking is also used
+//! leaving it, as in TabuCol (Hertz and de Werra 1987). Local search for station repacking is also used
 //! by SATFC (Newman, Fréchette, Leyton-Brown 2017).
 //!
 //! The crate may call `assign_check`, `cert_types`, and what that depends on; no check of answers ever calls it. In reading order:

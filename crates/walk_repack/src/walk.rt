@@ -1,7 +1,7 @@
 //! The solver of a worker that walks, as other crates see it.
 
 ghost use Rattle.std.specs.Prelude.{ℕ, ◌≡◌, [], IfOk, false};
-ghost use Rattle.cert_types.specs.Valid.{learns};
+ghost use Rattle.pack_defs.specs.Scenario.{learns};
 ghost use Rattle.cert_types.specs.Moves.{start_map};
 ghost use Rattle.walk_repack.specs.Steps.{WalkEndIs};
 ghost use Rattle.pack_defs.specs.declared.worker.Kind.{Kind};
@@ -28,7 +28,7 @@ pub struct Walk {
 impl Model for Walk {
     ghost use Rattle.std.specs.Prelude.{◌≡◌, false};
     ghost use Rattle.pack_defs.specs.declared.worker.Worker.{Worker};
-    ghost use Rattle.cert_types.specs.Valid.{learns};
+    ghost use Rattle.pack_defs.specs.Scenario.{learns};
 
     ghost Value = { Worker };
 

@@ -5,7 +5,7 @@ use Rattle.cnf_encode.specs.Formula.{packing_formula, variables_in}
 use Rattle.cert_types.specs.declared.answer.Place.TheVariants.{LineAt}
 use Rattle.cert_types.specs.FirstLine.{is_empty_iff_last}
 use Rattle.cert_types.specs.Refutes.{is_subset}
-use Rattle.cert_types.specs.Valid.{learns}
+use Rattle.pack_defs.specs.Scenario.{learns}
 use Rattle.cert_types.proofs.CheckLemmas.{first-checked, proof-counted}
 use Rattle.cert_types.proofs.certify.proof_fault.Goals as goal
 

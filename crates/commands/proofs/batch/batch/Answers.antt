@@ -55,7 +55,7 @@ returns-in-Err-read_each-clause-ends g c =
     (BatchStopped
     (stopped-each names listed _ _ _ c.in-Err-read_each.status
     (λ files modelled. rw c.inputs_with-names.ensures at (c.in-Ok.ensures.modelled files modelled)) once
-    (record { files = c.in-Ok.ensures.files; faults = c.in-Ok.ensures.counted.kept; steady = c.in-Ok.ensures.steady; held = refl; cuts = refl; sure = refl })
+    (record { files = c.in-Ok.ensures.files; faults = c.in-Ok.ensures.counted.kept; steady = c.in-Ok.ensures.steady; held = refl; sink_faults = refl; sure = refl })
     c.in-Ok.ensures.counted.rises
     c.in-Err-read_each.ensures.stopped)
     c.without_record-in-Err-read_each.ensures.no_batch)
@@ -78,4 +78,4 @@ returns-clause-ends g c =
     (delivers-since (batch_texts held records) (status_lines held.lines records) (batch_status records) _ _ _ _
     (subst (λ o. Delivers (batch_texts held records) (status_lines held.lines records) (batch_status records) o after c.deliver-status.result) c.in-Ok-read_each.ensures.same
     (rw (c.batch_status-done.ensures, c.deref-3.ensures.value, c.deref-4.ensures.value, listed-lines, c.deref-5.ensures.value, c.in-Ok-carry_all_out.ensures.texts, c.deref-6.ensures.value, c.in-Ok-carry_all_out.ensures.printed, c.deref-2.ensures.value, listed-lines) at c.deliver-status.ensures.delivers))
-    (record { files = c.in-Ok.ensures.files; faults = c.in-Ok.ensures.counted.kept; steady = c.in-Ok.ensures.steady; held = refl; cuts = refl; sure = refl })))
+    (record { files = c.in-Ok.ensures.files; faults = c.in-Ok.ensures.counted.kept; steady = c.in-Ok.ensures.steady; held = refl; sink_faults = refl; sure = refl })))

@@ -30,6 +30,6 @@ returns-clause-ends g c =
     let settled = c.in-Ok-settled_by.ensures in
     settled-since (import_view c.args.files.now) _ _ _ _ _ _ c.args.inputs.now c.args.rec c.in-Ok.log.items c.in-Ok-settled_by.settled c.requires.shown (sym c.in_default.ensures)
     refl c.in-Ok.ensures.read (rw c.deref.ensures.value at settled.0) settled.1 c.keeps_ascending_fits.ensures c.with_record.ensures.kept
-    (record { files = c.in-Ok.ensures.files; faults = c.in-Ok.ensures.counted; steady = c.in-Ok.ensures.steady; held = refl; cuts = refl; sure = refl })
+    (record { files = c.in-Ok.ensures.files; faults = c.in-Ok.ensures.counted; steady = c.in-Ok.ensures.steady; held = refl; sink_faults = refl; sure = refl })
     (rw c.with_record.ensures.status
     (rw (c.deref-2.ensures.value, c.deref-3.ensures.value, c.deref-4.ensures.value, c.in-Ok-texts_of.ensures.result, c.in-Ok-texts_of.ensures.transcript, c.in-Ok-texts_of.ensures.summary, c.done_status-done.ensures) at c.deliver-status.ensures.delivers))

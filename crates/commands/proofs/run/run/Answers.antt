@@ -14,5 +14,5 @@ conclude-requires-clause-of g c =
 pub returns-clause-ends : goal.returns-clause-ends
 returns-clause-ends g c =
     run-concludes (run_names_view c.args.files.now) _ _ _ _ _ c.in-Ok.inputs c.in-Ok-auction_of.record c.in-Ok.ensures.modelled
-    (record { files = c.in-Ok.ensures.files; faults = c.in-Ok.ensures.counted.kept; steady = c.in-Ok.ensures.steady; held = refl; cuts = refl; sure = refl })
+    (record { files = c.in-Ok.ensures.files; faults = c.in-Ok.ensures.counted.kept; steady = c.in-Ok.ensures.steady; held = refl; sink_faults = refl; sure = refl })
     c.in-Ok-auction_of.ensures c.conclude.ensures.ends

@@ -47,4 +47,4 @@ returns-clause-ends g c =
     (rw c.with_both.ensures.status
     (delivers-since (named c.args.files.now.channels.now (channels_text x.rec.map) ∷ []) (top_text x.top x.is_open) (top_status x.is_open) _ _ _ _
     (rw (c.deref.ensures.value, c.deref-2.ensures.value, c.in-Ok-texts_of.ensures.channels, c.in-Ok-texts_of.ensures.top, c.top_status.ensures) at c.deliver-status.ensures.delivers)
-    (record { files = c.in-Ok.ensures.files; faults = c.in-Ok.ensures.counted.kept; steady = c.in-Ok.ensures.steady; held = refl; cuts = refl; sure = refl })))
+    (record { files = c.in-Ok.ensures.files; faults = c.in-Ok.ensures.counted.kept; steady = c.in-Ok.ensures.steady; held = refl; sink_faults = refl; sure = refl })))

@@ -2,12 +2,12 @@ use Rattle.std.proofs.Common.{◌∙◌, ap, sym, subst}
 use Rattle.auction_core.specs.Take.{PostingView, take}
 use Rattle.turn_lock.specs.Passes.{pass_number}
 use Rattle.answer_board.specs.Boards.{raised}
-use Rattle.race_wave.specs.Wave.{HasNothingLeft, is_last_reply}
+use Rattle.race_wave.specs.Wave.{HasNothingLeft, ends_turn}
 use Rattle.race_wave.proofs.WaveLemmas.{rests}
 use Rattle.race_wave.proofs.wave.post_through_gate.Goals as goal
 
-pub returns-then-is_last_reply-clause-done : goal.returns-then-is_last_reply-clause-done
-returns-then-is_last_reply-clause-done g c _ =
+pub returns-then-ends_turn-clause-done : goal.returns-then-ends_turn-clause-done
+returns-then-ends_turn-clause-done g c _ =
     let on = raised c.args.board.now in
     let told = c.in-Ok.ensures.posted in
     let posting : PostingView = record { worker = pass_number c.args.pass.now; number = c.args.number; answer = c.args.certified.answer } in
@@ -15,5 +15,5 @@ returns-then-is_last_reply-clause-done g c _ =
     record {
       state = left;
       replays = told.leaves;
-      holds = subst (λ w. HasNothingLeft w left) (sym (ap (λ s. s.number) c.in-Ok.ensures.idle.stands)) (rests on.scenario on.book told.state posting (ap is_last_reply (sym told.told) ∙ (sym c.is_last_reply.ensures ∙ c.if-is_last_reply.true)));
+      holds = subst (λ w. HasNothingLeft w left) (sym (ap (λ s. s.number) c.in-Ok.ensures.idle.stands)) (rests on.scenario on.book told.state posting (ap ends_turn (sym told.told) ∙ (sym c.ends_turn.ensures ∙ c.if-ends_turn.true)));
     }

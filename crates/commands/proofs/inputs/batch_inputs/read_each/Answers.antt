@@ -40,7 +40,7 @@ loop-line-init g c =
       faults = refl;
       steady = refl;
       held = refl;
-      cuts = refl;
+      sink_faults = refl;
       sure = refl;
     }
 
@@ -63,7 +63,7 @@ returns-in-Err-clause-stopped g c =
           subst (λ (ls : List ListedNames). StopsAsHeld (g.F.Folder.modelled c.args.folder.now).steady (each_inputs held names constraints ls) (Unread (inputs_with names line.scenario) c.in-Err.stop)) c.deref-line-items.ensures.value
           (each-stops held names constraints (g.F.Folder.modelled c.args.folder.now).steady at.inputs.items lines at.line-index line c.in-Err.stop (own.modelled held is) c.loop-line-test.true c.line-item.is agrees);
       counted = subst (λ n. CountsFault {A = Inputs} n (g.F.Folder.modelled c.inputs_with_constraints.new.folder).faults (Err c.in-Err.stop)) own.faults c.in-Err.ensures.counted;
-      explains = rw (c.scenario-in-Err.ensures, own.held, own.cuts) at c.explain_batch_stop.ensures.explains;
+      explains = rw (c.scenario-in-Err.ensures, own.held, own.sink_faults) at c.explain_batch_stop.ensures.explains;
       files = c.in-Err.ensures.files ∙ own.files;
     }
 
@@ -92,7 +92,7 @@ loop-line-preserved g c =
       faults = read.counted.rises ∙ own.faults;
       steady = read.steady ∙ own.steady;
       held = own.held;
-      cuts = own.cuts;
+      sink_faults = own.sink_faults;
       sure = own.sure;
     }
 
@@ -108,4 +108,4 @@ returns-clause-modelled g c = λ held is.
 pub returns-clause-same : goal.returns-clause-same
 returns-clause-same g c =
     let own = c.loop-line.invariant in
-    λ i. record { files = own.files i; faults = own.faults i; steady = own.steady i; held = own.held i; cuts = own.cuts i; sure = own.sure i }
+    λ i. record { files = own.files i; faults = own.faults i; steady = own.steady i; held = own.held i; sink_faults = own.sink_faults i; sure = own.sure i }

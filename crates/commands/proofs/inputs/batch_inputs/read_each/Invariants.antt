@@ -18,6 +18,6 @@ invariant-loop-line g l = record {
   faults : (g.F.Folder.modelled l.folder).faults ≡ (g.F.Folder.modelled l.initial.folder).faults;
   steady : (g.F.Folder.modelled l.folder).steady ≡ (g.F.Folder.modelled l.initial.folder).steady;
   held : (g.K.Sink.modelled l.out).held ≡ (g.K.Sink.modelled l.initial.out).held;
-  cuts : (g.K.Sink.modelled l.out).faults ≡ (g.K.Sink.modelled l.initial.out).faults;
+  sink_faults : (g.K.Sink.modelled l.out).faults ≡ (g.K.Sink.modelled l.initial.out).faults;
   sure : (g.K.Sink.modelled l.out).sure ≡ (g.K.Sink.modelled l.initial.out).sure;
 }
