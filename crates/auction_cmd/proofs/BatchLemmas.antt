@@ -29,7 +29,7 @@ use Rattle.commands.specs.Outside.{Outside, IsLinePrinted}
 use Rattle.commands.specs.Records.{IsRecordBy, done_status, result_of, run_order}
 use Rattle.command_words.specs.Words.{name_of}
 use Rattle.commands.specs.Messages.{memory_line, unread_line, unwritten_line}
-use Rattle.commands.specs.VerifyPromises.{IsStatusOr}
+use Rattle.commands.specs.Ends.{IsStatusOr}
 use Rattle.command_words.specs.Words.{BatchNames, InputNames}
 use Rattle.auction_cmd.proofs.BatchReadings.{other-results, own-results, read-batch}
 use Rattle.commands.proofs.DeliveryLemmas.{AreApart, Ended, IsPart, ended-of, for-told, others-up-to}

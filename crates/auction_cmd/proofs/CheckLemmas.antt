@@ -8,12 +8,11 @@ use Rattle.outside_io.specs.Loads.{Writes}
 use Rattle.auction_core.specs.declared.record.Record.{Record}
 use Rattle.commands.specs.declared.inputs.Inputs.{Inputs}
 use Rattle.commands.specs.Check.{counts_text}
-use Rattle.commands.specs.Ends.{CheckEnds}
+use Rattle.commands.specs.Ends.{CheckEnds, IsStatusOr}
 use Rattle.commands.specs.Ends.CheckEnds.{CheckStopped, CheckOutOfMemory, Counted, CountsCut}
 use Rattle.commands.specs.Inputs.{inputs_of}
 use Rattle.commands.specs.Outside.{Outside, IsLinePrinted}
 use Rattle.commands.specs.Messages.{memory_line}
-use Rattle.commands.specs.VerifyPromises.{IsStatusOr}
 use Rattle.command_words.specs.Words.{InputNames}
 use Rattle.commands.proofs.Halts.{Reading, halted-held, stopped-memory, stopped-statuses, stopped-unread}
 use Rattle.commands.proofs.Halts.Reading.{Halted, Short, Went}

@@ -21,7 +21,7 @@ use Rattle.commands.specs.declared.settling.StepFault.{StepFault}
 use Rattle.commands.specs.declared.settling.StepFault.TheVariants.{NoSuchStep}
 use Rattle.commands.specs.Delivery.{AllOthersUnchanged, AreStored, IsNotStored, IsOther, IsStored, NamedText, named}
 use Rattle.commands.specs.Delivery.IsNotStored.{Unwritten, OutOfRoom}
-use Rattle.commands.specs.Ends.{ExportEnds, IsShown, VerifyEnds}
+use Rattle.commands.specs.Ends.{ExportEnds, IsShown, VerifyEnds, IsStatusOr}
 use Rattle.commands.specs.Ends.ExportEnds.{Unshown, ExportOutOfMemory, NoStep, FormulaStored, FormulaNotStored}
 use Rattle.commands.specs.Ends.VerifyEnds.{VerifyStopped, VerifyOutOfMemory, NotLoaded, NotSound, Sound}
 use Rattle.commands.specs.ExportPromises.{ExportPromises, IsStepAsked}
@@ -30,7 +30,7 @@ use Rattle.commands.specs.Outside.{Outside, IsLinePrinted}
 use Rattle.commands.specs.Messages.{memory_line, unwritten_line}
 use Rattle.commands.specs.Settling.{missing_fault, step_line}
 use Rattle.commands.specs.Verified.{verified}
-use Rattle.commands.specs.VerifyPromises.{IsGiven, IsStatusOr, VerifyPromises}
+use Rattle.commands.specs.VerifyPromises.{IsGiven, VerifyPromises}
 use Rattle.command_words.specs.Words.{ExportNames, VerifyNames}
 use Rattle.commands.proofs.DeliveryLemmas.{all-more, all-none, for-told, others-up-to, part-here}
 use Rattle.commands.proofs.Halts.{not-both, stopped-statuses}

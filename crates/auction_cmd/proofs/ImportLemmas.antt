@@ -24,7 +24,7 @@ use Rattle.commands.specs.declared.inputs.input_file.Stop.TheVariants.{Refused}
 use Rattle.commands.specs.declared.messages.refusal.Refusal.{Refusal}
 use Rattle.commands.specs.declared.settling.StepFault.{StepFault}
 use Rattle.commands.specs.Delivery.{AllOthersUnchanged, AreStored, Delivers, NamedText}
-use Rattle.commands.specs.Ends.{AreInputsOf, ImportEnds, IsFileHeld, IsNotLoaded, IsShown, import_texts}
+use Rattle.commands.specs.Ends.{AreInputsOf, ImportEnds, IsFileHeld, IsNotLoaded, IsShown, import_texts, IsStatusOr}
 use Rattle.commands.specs.Ends.ImportEnds.{NothingShown, ImportOutOfMemory, NoOpenStep, NoLog, NotSettled, Settled}
 use Rattle.commands.specs.Ends.IsNotLoaded.{Unloaded, LongText}
 use Rattle.commands.specs.ImportPromises.{ImportPromises, IsImported, IsImportedUpTo, IsLogIn, IsSettledStep, IsSoundIn, IsUnimported, IsUnlogged, IsUnsummed}
@@ -35,7 +35,7 @@ use Rattle.commands.specs.Records.{IsRecordIn, done_status, outcome, result_of, 
 use Rattle.commands.specs.Messages.{memory_line, unread_line, unwritten_line}
 use Rattle.commands.specs.Settling.{unsettled_line, open_fault, step_line}
 use Rattle.commands.specs.Verified.{verified}
-use Rattle.commands.specs.VerifyPromises.{AreAllFilesPresent, IsGiven, IsStatusOr, VerifyPromises}
+use Rattle.commands.specs.VerifyPromises.{AreAllFilesPresent, IsGiven, VerifyPromises}
 use Rattle.command_words.specs.Words.{ImportNames, repeated_import}
 use Rattle.commands.proofs.DeliveryLemmas.{AreApart, Ended, ended-of, for-told, others-up-to}
 use Rattle.commands.proofs.DeliveryLemmas.Ended.{Both, NotSaid, NotStored, OutOfRoom}

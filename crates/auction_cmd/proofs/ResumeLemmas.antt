@@ -20,7 +20,7 @@ use Rattle.command_words.specs.declared.run_words.Input.{Input}
 use Rattle.commands.specs.declared.messages.refusal.Refusal.{Refusal}
 use Rattle.transcript_text.specs.Spelling.{transcript_text}
 use Rattle.commands.specs.Delivery.{AllOthersUnchanged, AreStored, named}
-use Rattle.commands.specs.Ends.{AreInputsOf, Concludes, IsTextHeld, RunEnds, auction_texts}
+use Rattle.commands.specs.Ends.{AreInputsOf, Concludes, IsTextHeld, RunEnds, auction_texts, IsStatusOr}
 use Rattle.commands.specs.Ends.Concludes.{Unfit, StartOpen, Delivered}
 use Rattle.commands.specs.Ends.IsNotLoaded.{Unloaded, LongText}
 use Rattle.commands.specs.Ends.RunEnds.{Concluded}
@@ -37,7 +37,7 @@ use Rattle.auction_cmd.specs.ResumePromises.{IsResumed, ResumePromises}
 use Rattle.commands.specs.Resume.{ContinuesFrom, begun}
 use Rattle.commands.specs.Messages.{long_line, memory_line, unread_line}
 use Rattle.commands.specs.Verified.{CanBeNamed, fault_line, verified}
-use Rattle.commands.specs.VerifyPromises.{AreAllFilesPresent, IsGiven, IsStatusOr}
+use Rattle.commands.specs.VerifyPromises.{AreAllFilesPresent, IsGiven}
 use Rattle.command_words.specs.Words.{ResumeNames, RunNames, resume_input_names, output_names}
 use Rattle.commands.proofs.Halts.{halted-held, not-both, same-inputs, stopped-memory, stopped-statuses}
 use Rattle.commands.proofs.DeliveryLemmas.{Ended, ended-of, for-told}

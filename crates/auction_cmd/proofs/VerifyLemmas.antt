@@ -14,14 +14,14 @@ use Rattle.transcript_text.specs.Spelling.{transcript_text}
 use Rattle.commands.specs.declared.messages.fault.TranscriptFault.{TranscriptFault}
 use Rattle.commands.specs.declared.inputs.Inputs.{Inputs}
 use Rattle.commands.specs.Delivery.IsPrinted.{Written, CutShort}
-use Rattle.commands.specs.Ends.{AreInputsOf, VerifyEnds}
+use Rattle.commands.specs.Ends.{AreInputsOf, VerifyEnds, IsStatusOr}
 use Rattle.commands.specs.Ends.IsNotLoaded.{Unloaded, LongText}
 use Rattle.commands.specs.Ends.VerifyEnds.{VerifyStopped, VerifyOutOfMemory, NotLoaded, NotSound, Sound}
 use Rattle.commands.specs.Inputs.{inputs_of}
 use Rattle.commands.specs.Outside.{Outside, IsLinePrinted}
 use Rattle.commands.specs.Records.{IsRecordIn, done_status, outcome, result_of}
 use Rattle.commands.specs.Verified.{CanBeNamed, fault_line, verified}
-use Rattle.commands.specs.VerifyPromises.{IsGiven, IsStatusOr, IsVerified, VerifyPromises, verified_text}
+use Rattle.commands.specs.VerifyPromises.{IsGiven, IsVerified, VerifyPromises, verified_text}
 use Rattle.command_words.specs.Words.{VerifyNames}
 use Rattle.commands.proofs.Halts.{halted-held, same-inputs, stopped-statuses}
 use Rattle.commands.proofs.RoundTripLemmas.{record-verified}

@@ -9,7 +9,7 @@ use Rattle.commands.specs.declared.inputs.Inputs.{Inputs}
 use Rattle.commands.specs.declared.inputs.input_file.Stop.TheVariants.{CannotRead, Refused}
 use Rattle.command_words.specs.declared.run_words.Input.{Input}
 use Rattle.commands.specs.declared.messages.refusal.Refusal.{Refusal}
-use Rattle.commands.specs.Ends.{VerifyEnds}
+use Rattle.commands.specs.Ends.{VerifyEnds, IsStatusOr}
 use Rattle.commands.specs.Ends.IsNotLoaded.{Unloaded, LongText}
 use Rattle.commands.specs.Ends.VerifyEnds.{VerifyStopped, VerifyOutOfMemory, NotLoaded, NotSound, Sound}
 use Rattle.commands.specs.Inputs.{inputs_of, transcript_limit}
@@ -19,7 +19,7 @@ use Rattle.commands.specs.Records.{result_of}
 use Rattle.commands.specs.Refusal.{refusal_line}
 use Rattle.command_words.specs.Words.{name_of}
 use Rattle.commands.specs.Messages.{long_line, unread_line}
-use Rattle.commands.specs.VerifyPromises.{AreAllFilesPresent, IsStatusOr}
+use Rattle.commands.specs.VerifyPromises.{AreAllFilesPresent}
 use Rattle.command_words.specs.Words.{VerifyNames}
 use Rattle.commands.proofs.Halts.{halted-held, missing-one, not-both, read-there, refused-cause, stopped-unread, stops-at, unread-line}
 use Rattle.commands.proofs.Halts.Reading.{Halted}

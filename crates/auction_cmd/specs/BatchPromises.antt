@@ -24,7 +24,7 @@ use Rattle.commands.specs.Refusal.{refusal_line}
 use Rattle.command_words.specs.Words.{name_of}
 use Rattle.commands.specs.Messages.{memory_line, twice_line, unread_line, unwritten_line}
 use Rattle.commands.specs.Statuses.{DONE, LEFT_OPEN, UNREAD, UNWRITTEN, REFUSED, NO_MEMORY, SOME_UNSTARTED}
-use Rattle.commands.specs.VerifyPromises.{IsStatusOr}
+use Rattle.commands.specs.Ends.{IsStatusOr}
 use Rattle.command_words.specs.Words.{BatchNames, InputNames}
 
 -- Whether all auctions of the batch ended. There is a record for each line of the list, in order: it is backed, and of the auction of

@@ -13,7 +13,7 @@ use Rattle.commands.specs.declared.inputs.input_file.Stop.TheVariants.{CannotRea
 use Rattle.command_words.specs.declared.run_words.Input.{Input}
 use Rattle.commands.specs.declared.messages.refusal.Refusal.{Refusal}
 use Rattle.commands.specs.Delivery.{AllOthersUnchanged}
-use Rattle.commands.specs.Ends.{AreInputsOf, IsTextHeld}
+use Rattle.commands.specs.Ends.{AreInputsOf, IsTextHeld, IsStatusOr}
 use Rattle.commands.specs.Inputs.{inputs_of, transcript_limit}
 use Rattle.commands.specs.Outside.{Outside, IsLinePrinted}
 use Rattle.commands.specs.Promises.{IsSomeRecord}
@@ -25,7 +25,7 @@ use Rattle.commands.specs.RunPromises.{RunPromises}
 use Rattle.commands.specs.Messages.{long_line, memory_line, unread_line}
 use Rattle.commands.specs.Statuses.{DONE, LEFT_OPEN, UNREAD, UNWRITTEN, REFUSED, START_UNFIT, START_OPEN, NO_MEMORY, NOT_SHOWN}
 use Rattle.commands.specs.Verified.{fault_line, verified}
-use Rattle.commands.specs.VerifyPromises.{AreAllFilesPresent, IsGiven, IsStatusOr}
+use Rattle.commands.specs.VerifyPromises.{AreAllFilesPresent, IsGiven}
 use Rattle.command_words.specs.Words.{ResumeNames, resume_input_names, output_names}
 
 -- Whether the auction continued from what is kept of the beginning that was read, and each kept step verifies. The record is of the

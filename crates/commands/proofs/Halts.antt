@@ -9,14 +9,13 @@ use Rattle.commands.specs.declared.inputs.input_file.Stop.{Stop}
 use Rattle.commands.specs.declared.inputs.input_file.Stop.TheVariants.{CannotRead, Refused, NoMemory}
 use Rattle.command_words.specs.declared.run_words.Input.{Input}
 use Rattle.commands.specs.declared.messages.refusal.Refusal.{Refusal}
-use Rattle.commands.specs.Ends.{AreInputsOf, ExplainsHalt, IsHalted}
+use Rattle.commands.specs.Ends.{AreInputsOf, ExplainsHalt, IsHalted, IsStatusOr}
 use Rattle.commands.specs.Inputs.{Agrees, RisesAt, inputs_of}
 use Rattle.commands.specs.Outside.{Outside, IsLinePrinted}
 use Rattle.commands.specs.Promises.{AreInputsPresent}
 use Rattle.commands.specs.Refusal.{refusal_line}
 use Rattle.command_words.specs.Words.{name_of}
 use Rattle.commands.specs.Messages.{memory_line, unread_line}
-use Rattle.commands.specs.VerifyPromises.{IsStatusOr}
 use Rattle.command_words.specs.Words.{InputNames}
 use Rattle.commands.proofs.ReadingLemmas.{can-read}
 use Rattle.commands.proofs.Statuses.{off, one-of}

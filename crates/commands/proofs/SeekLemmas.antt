@@ -33,7 +33,7 @@ use Rattle.commands.specs.declared.top_channel_runs.LeastTop.{LeastTop}
 use Rattle.commands.specs.Delivery.IsNotStored.{Unwritten, OutOfRoom as NoRoom}
 use Rattle.commands.specs.Delivery.IsPrinted.{Written, CutShort}
 use Rattle.commands.specs.Delivery.{AllOthersUnchanged, AreStored, Delivers, NamedText, named}
-use Rattle.commands.specs.Ends.{AreInputsOf, AreSought, SeekEnds}
+use Rattle.commands.specs.Ends.{AreInputsOf, AreSought, SeekEnds, IsStatusOr}
 use Rattle.commands.specs.Ends.SeekEnds.{SeekStopped, SeekOutOfMemory, NoTop, TopOpen, TopFound}
 use Rattle.commands.specs.Inputs.{Agrees, CountsFault, RisesAt, and_then, inputs_by, inputs_from, inputs_of, sources_of, with_owners_file}
 use Rattle.commands.specs.Outside.{Outside, IsLinePrinted}
@@ -42,7 +42,6 @@ use Rattle.commands.specs.Records.{IsOpenRecordOf, IsRefutedRecordOf, run_order}
 use Rattle.commands.specs.Messages.{memory_line, unwritten_line}
 use Rattle.commands.specs.Seek.{IsOneBelow, IsLeastTop, IsSeekable, base_of, inputs_at, joinable, seekable_of, top_status, top_text}
 use Rattle.commands.specs.SeekPromises.{IsNoTop, IsTopOf, IsTopOpen, SeekPromises, seek_texts, shows_unfit}
-use Rattle.commands.specs.VerifyPromises.{IsStatusOr}
 use Rattle.command_words.specs.Words.{InputNames, SeekNames, seek_inputs}
 use Rattle.commands.proofs.DeliveryLemmas.{AreApart, Ended, IsPart, all-more, all-none, ended-of, for-told, others-up-to}
 use Rattle.commands.proofs.DeliveryLemmas.Ended.{Both, NotSaid, NotStored, OutOfRoom}

@@ -17,7 +17,7 @@ use Rattle.auction_core.specs.Backed.{undecided_of}
 use Rattle.auction_core.proofs.StartShown.{open-some}
 use Rattle.commands.specs.declared.inputs.Inputs.{Inputs}
 use Rattle.commands.specs.Delivery.{Delivers}
-use Rattle.commands.specs.Ends.{RunEnds, auction_texts}
+use Rattle.commands.specs.Ends.{RunEnds, auction_texts, IsStatusOr}
 use Rattle.commands.specs.Ends.Concludes.{Unfit, StartOpen, Delivered}
 use Rattle.commands.specs.Ends.RunEnds.{RunStopped, RunOutOfMemory, Concluded}
 use Rattle.commands.specs.Inputs.{inputs_of}
@@ -25,7 +25,6 @@ use Rattle.commands.specs.Outside.{Outside, IsLinePrinted}
 use Rattle.commands.specs.RunPromises.{IsStartLeftOpen, IsRecordAt}
 use Rattle.commands.specs.Records.{StartFits, StartUnfit, done_status, summary_in}
 use Rattle.commands.specs.Messages.{memory_line, unfit_line}
-use Rattle.commands.specs.VerifyPromises.{IsStatusOr}
 use Rattle.command_words.specs.Words.{RunNames}
 use Rattle.commands.proofs.DeliveryLemmas.{Ended, ended-of}
 use Rattle.commands.proofs.DeliveryLemmas.Ended.{Both, NotSaid, NotStored, OutOfRoom}

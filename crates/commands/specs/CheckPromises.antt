@@ -10,7 +10,7 @@ use Rattle.commands.specs.Check.{counts_text}
 use Rattle.commands.specs.Inputs.{inputs_of}
 use Rattle.commands.specs.Outside.{Outside, IsLinePrinted}
 use Rattle.commands.specs.Statuses.{DONE, LEFT_OPEN, UNWRITTEN, START_UNFIT, START_OPEN, NOT_SHOWN, NOT_SETTLED}
-use Rattle.commands.specs.VerifyPromises.{IsStatusOr}
+use Rattle.commands.specs.Ends.{IsStatusOr}
 use Rattle.command_words.specs.Words.{InputNames}
 
 -- What `check` promises where the folder's files are modelled.

@@ -1,6 +1,6 @@
 -- How the program ends: its status, its records, and what it leaves outside. `BatchEnds` says how a batch ends, and `ResumeEnds`
 -- how `resume` does.
-use Rattle.std.specs.Prelude.{◌≡◌, ◌<◌, ◌≤◌, ◌⊎◌, ℕ, true, List, [], ◌∷◌, length, Option, Some, None, Ok, Err}
+use Rattle.std.specs.Prelude.{◌≡◌, ◌≢◌, ◌<◌, ◌≤◌, ◌⊎◌, ℕ, true, List, [], ◌∷◌, length, Option, Some, None, Ok, Err}
 use Rattle.outside_io.specs.Faults.{HasRisen}
 use Rattle.outside_io.specs.Files.{StoredFile, bytes_of}
 use Rattle.outside_io.specs.Loads.{Writes}
@@ -59,6 +59,10 @@ pub record IsHalted (names : InputNames) (before after : Outside) (status : ℕ)
   pub counted : CountsFault {A = Inputs} before.faults after.faults (Err stop)
   pub explains : ExplainsHalt names stop before.held after.held before.sink_faults after.sink_faults status
   pub files : after.files ≡ before.files
+
+-- The status is this one, or 8, or 3 over a folder that isn't steady. Whether memory really ran out at 8 is not asked.
+abbrev pub IsStatusOr : ℕ → Outside → ℕ → Type 0
+IsStatusOr wanted before status = (status ≡ wanted) ⊎ ((status ≡ NO_MEMORY) ⊎ ((status ≡ UNREAD) × (before.steady ≢ true)))
 
 -- Status 8 and its line, no record, and no file changed. Whether memory really ran out is not asked.
 pub record EndsOutOfMemory (before after : Outside) (status : ℕ) (found : Option Record) : Type 0 where

@@ -19,7 +19,8 @@ use Rattle.commands.specs.Messages.{unwritten_line}
 use Rattle.commands.specs.Settling.{step_line}
 use Rattle.commands.specs.Statuses.{DONE, UNREAD, UNWRITTEN, REFUSED, NO_MEMORY, NOT_SHOWN, NOT_SETTLED}
 use Rattle.commands.specs.Verified.{verified}
-use Rattle.commands.specs.VerifyPromises.{IsGiven, IsStatusOr, VerifyPromises}
+use Rattle.commands.specs.VerifyPromises.{IsGiven, VerifyPromises}
+use Rattle.commands.specs.Ends.{IsStatusOr}
 use Rattle.command_words.specs.Words.{ExportNames, VerifyNames}
 
 -- The transcript that the files hold is sound, and its record's step of this number is `there`, which may be none.

@@ -23,7 +23,7 @@ use Rattle.commands.specs.declared.inputs.input_file.Stop.TheVariants.{Refused}
 use Rattle.commands.specs.declared.messages.refusal.Refusal.{Refusal}
 use Rattle.commands.specs.declared.settling.StepFault.{StepFault}
 use Rattle.commands.specs.Delivery.{AllOthersUnchanged, AreStored, AreStoredUpTo, NamedText}
-use Rattle.commands.specs.Ends.{AreInputsOf, IsNotLoaded, IsShown, import_texts}
+use Rattle.commands.specs.Ends.{AreInputsOf, IsNotLoaded, IsShown, import_texts, IsStatusOr}
 use Rattle.commands.specs.Inputs.{file_limit, inputs_of, transcript_limit}
 use Rattle.commands.specs.Outside.{Outside, IsLinePrinted}
 use Rattle.commands.specs.Records.{IsRecordIn, done_status, outcome, summary_in}
@@ -31,7 +31,7 @@ use Rattle.commands.specs.Messages.{unread_line, unwritten_line}
 use Rattle.commands.specs.Settling.{unsettled_line, open_fault, step_line}
 use Rattle.commands.specs.Statuses.{DONE, LEFT_OPEN, UNREAD, UNWRITTEN, REFUSED, NO_MEMORY, NOT_SHOWN, NOT_SETTLED}
 use Rattle.commands.specs.Verified.{verified}
-use Rattle.commands.specs.VerifyPromises.{AreAllFilesPresent, IsGiven, IsStatusOr, VerifyPromises}
+use Rattle.commands.specs.VerifyPromises.{AreAllFilesPresent, IsGiven, VerifyPromises}
 use Rattle.command_words.specs.Words.{ImportNames, VerifyNames}
 
 -- The transcript that the files hold is sound.

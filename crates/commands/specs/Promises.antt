@@ -29,7 +29,8 @@ use Rattle.commands.specs.RunPromises.{RunPromises}
 use Rattle.commands.specs.Messages.{memory_line, twice_line, unread_line}
 use Rattle.commands.specs.SeekPromises.{SeekPromises}
 use Rattle.commands.specs.Statuses.{DONE, LEFT_OPEN, NO_COMMAND, UNREAD, UNWRITTEN, REFUSED, START_UNFIT, START_OPEN, NO_MEMORY, NOT_SHOWN, NOT_SETTLED}
-use Rattle.commands.specs.VerifyPromises.{IsStatusOr, VerifyPromises}
+use Rattle.commands.specs.VerifyPromises.{VerifyPromises}
+use Rattle.commands.specs.Ends.{IsStatusOr}
 use Rattle.command_words.specs.Words.{ExportNames, ImportNames, InputNames, MakeNames, RunNames, SeekNames, VerifyNames, seek_inputs}
 
 -- The input files of a plan that reads its inputs and no other file: `run`, `check` or `seek`. None for any other plan.

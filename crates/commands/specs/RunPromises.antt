@@ -15,7 +15,7 @@ use Rattle.auction_core.specs.declared.record.Record.{Record}
 use Rattle.auction_core.specs.Backed.{undecided_of}
 use Rattle.transcript_text.specs.Spelling.{transcript_text}
 use Rattle.commands.specs.Delivery.{AllOthersUnchanged, AreStored, AreStoredUpTo}
-use Rattle.commands.specs.Ends.{AreInputsOf, auction_texts}
+use Rattle.commands.specs.Ends.{AreInputsOf, auction_texts, IsStatusOr}
 use Rattle.commands.specs.Inputs.{inputs_of}
 use Rattle.commands.specs.LivePromises.{IsLive}
 use Rattle.commands.specs.Outside.{Outside, IsLinePrinted}
@@ -23,7 +23,6 @@ use Rattle.commands.specs.Records.{IsEndedRecordIn, IsOpenRecordIn, IsRecordIn, 
 use Rattle.commands.specs.Messages.{open_line, unfit_line, unwritten_line}
 use Rattle.commands.specs.Statuses.{DONE, LEFT_OPEN, UNWRITTEN, START_UNFIT, START_OPEN, NO_MEMORY}
 use Rattle.commands.specs.Verified.{verified}
-use Rattle.commands.specs.VerifyPromises.{IsStatusOr}
 use Rattle.command_words.specs.Words.{RunNames, output_names}
 
 -- The auction of these inputs was completed, and RESULT, CHANNELS and TRANSCRIPT hold the texts of its record. Verifying the

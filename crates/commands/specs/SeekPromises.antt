@@ -15,13 +15,12 @@ use Rattle.target_seek.specs.TopChannels.{book_at, fits_at}
 use Rattle.commands.specs.declared.inputs.sources.Sources.{Sources}
 use Rattle.commands.specs.declared.top_channel_runs.LeastTop.{LeastTop}
 use Rattle.commands.specs.Delivery.{AllOthersUnchanged, AreStored, NamedText, named}
-use Rattle.commands.specs.Ends.{AreSought}
+use Rattle.commands.specs.Ends.{AreSought, IsStatusOr}
 use Rattle.commands.specs.Outside.{Outside, IsLinePrinted}
 use Rattle.commands.specs.Records.{IsOpenRecordOf, IsRefutedRecordOf}
 use Rattle.commands.specs.Messages.{open_line, unfit_line, unwritten_line}
 use Rattle.commands.specs.Seek.{IsLeastTop, IsSeekable, base_of, inputs_at, seekable_of, top_status, top_text}
 use Rattle.commands.specs.Statuses.{DONE, LEFT_OPEN, UNREAD, UNWRITTEN, REFUSED, START_UNFIT, START_OPEN, NO_MEMORY}
-use Rattle.commands.specs.VerifyPromises.{IsStatusOr}
 use Rattle.command_words.specs.Words.{SeekNames, seek_inputs}
 
 -- What `seek` stores: the text of the channels up to the top that was found.

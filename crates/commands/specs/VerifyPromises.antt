@@ -16,7 +16,7 @@ use Rattle.commands.specs.declared.inputs.Inputs.{Inputs}
 use Rattle.commands.specs.declared.inputs.input_file.Stop.TheVariants.{CannotRead, Refused}
 use Rattle.command_words.specs.declared.run_words.Input.{Input}
 use Rattle.commands.specs.declared.messages.refusal.Refusal.{Refusal}
-use Rattle.commands.specs.Ends.{AreInputsOf}
+use Rattle.commands.specs.Ends.{AreInputsOf, IsStatusOr}
 use Rattle.commands.specs.Inputs.{inputs_of, transcript_limit}
 use Rattle.commands.specs.Outside.{Outside, IsLinePrinted}
 use Rattle.commands.specs.Records.{IsRecordIn, done_status, outcome, result_of}
@@ -26,10 +26,6 @@ use Rattle.commands.specs.Messages.{long_line, unread_line}
 use Rattle.commands.specs.Statuses.{DONE, LEFT_OPEN, UNREAD, UNWRITTEN, REFUSED, NO_MEMORY, NOT_SHOWN}
 use Rattle.commands.specs.Verified.{fault_line, verified}
 use Rattle.command_words.specs.Words.{VerifyNames}
-
--- The status is this one, or 8, or 3 over a folder that isn't steady. Whether memory really ran out at 8 is not asked.
-abbrev pub IsStatusOr : ℕ → Outside → ℕ → Type 0
-IsStatusOr wanted before status = (status ≡ wanted) ⊎ ((status ≡ NO_MEMORY) ⊎ ((status ≡ UNREAD) × (before.steady ≢ true)))
 
 -- The files hold these inputs and this text of a transcript, which is within the transcript limit.
 pub record IsGiven (files : List StoredFile) (names : VerifyNames) (inputs : Inputs) (text : List ℕ) : Type 0 where

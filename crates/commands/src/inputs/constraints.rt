@@ -3,7 +3,7 @@
 //! Whatever the length of a file, no more of it is held than one piece and the line that the piece's end cuts. `sources` and
 //! `batch_inputs` call it.
 
-ghost use Rattle.std.specs.Prelude.{◌≡◌, ◌≤◌, ◌+◌, ◌++◌, ℕ, List, Ok, Some, length};
+ghost use Rattle.std.specs.Prelude.{◌≡◌, ◌≤◌, ◌+◌, ◌++◌, ℕ, List, Ok, OnOk, Some, [], length};
 ghost use Rattle.outside_io.specs.Files.{StoredFile};
 ghost use Rattle.constraint_files.specs.Domains.{domains_fed, domains_of};
 ghost use Rattle.constraint_files.specs.PairTable.{pairs_fed, pairs_of};
@@ -48,6 +48,8 @@ fn begin<F: Folder>(folder: &mut F, name: &str, input: Input) -> Result<(), Stop
 fn next_piece<F: Folder>(folder: &mut F, input: Input, piece: &mut Vec<u8>) -> Result<(), Stop>
     ensures modelled { (rest : List ℕ) → F.left folder.old ≡ Some rest →
         IsHandedOut (F.modelled folder.old).steady rest (F.left folder.new) piece.new.items result }
+    // Whatever the folder tells: a piece without bytes is the end of the file.
+    ensures ended { OnOk result (length piece.new.items ≡ 0 → F.left folder.new ≡ Some []) }
     ensures come { F.come folder.new ≡ F.come folder.old + length piece.new.items }
     ensures most { F.most folder.new ≡ F.most folder.old }
     ensures within { F.come folder.new ≤ F.most folder.new }
@@ -69,6 +71,8 @@ fn feed_domains<F: Folder>(
 ) -> Result<DomainReader, Stop>
     ensures modelled { (done rest : List ℕ) → F.left folder.old ≡ Some rest → domains_fed done ≡ Ok reader →
         IsFed (F.modelled folder.old).steady (domains_fed (done ++ rest)) (rows_read Input.Domains (domains_of (done ++ rest))) result }
+    // Whatever the folder tells: the file was read to its end.
+    ensures ended { OnOk result (F.left folder.new ≡ Some []) }
     ensures files { (F.modelled folder.new).files ≡ (F.modelled folder.old).files }
     ensures steady { (F.modelled folder.new).steady ≡ (F.modelled folder.old).steady }
     ensures counted { CountsFault (F.modelled folder.old).faults (F.modelled folder.new).faults result }
@@ -100,6 +104,8 @@ pub(crate) fn domains_from<F: Folder>(
 ) -> Result<Domains, Stop>
     ensures modelled { (files : List StoredFile) → (F.modelled folder.old).files ≡ Some files → Agrees (λ d. d) (F.modelled folder.old).steady
         (and_then (file_of files name.now Input.Domains) (λ bytes. rows_read Input.Domains (domains_of bytes))) result }
+    // Whatever the folder tells: the file was read to its end.
+    ensures ended { OnOk result (F.left folder.new ≡ Some []) }
     ensures files { (F.modelled folder.new).files ≡ (F.modelled folder.old).files }
     ensures steady { (F.modelled folder.new).steady ≡ (F.modelled folder.old).steady }
     ensures counted { CountsFault (F.modelled folder.old).faults (F.modelled folder.new).faults result }
@@ -122,6 +128,8 @@ fn feed_pairs<'a, F: Folder>(
 ) -> Result<PairReader<'a>, Stop>
     ensures modelled { (done rest : List ℕ) (domains : List Domain) → F.left folder.old ≡ Some rest → pairs_fed done domains ≡ Ok reader.entry →
         IsFed (F.modelled folder.old).steady (pairs_fed (done ++ rest) domains) (rows_read Input.Rows (pairs_of (done ++ rest) domains)) result }
+    // Whatever the folder tells: the file was read to its end.
+    ensures ended { OnOk result (F.left folder.new ≡ Some []) }
     ensures files { (F.modelled folder.new).files ≡ (F.modelled folder.old).files }
     ensures steady { (F.modelled folder.new).steady ≡ (F.modelled folder.old).steady }
     ensures counted { CountsFault (F.modelled folder.old).faults (F.modelled folder.new).faults result }
@@ -154,6 +162,8 @@ pub(crate) fn pairs_from<F: Folder>(
 ) -> Result<Pairs, Stop>
     ensures modelled { (files : List StoredFile) → (F.modelled folder.old).files ≡ Some files → Agrees (λ p. p) (F.modelled folder.old).steady
         (and_then (file_of files name.now Input.Rows) (λ bytes. rows_read Input.Rows (pairs_of bytes domains.now))) result }
+    // Whatever the folder tells: the file was read to its end.
+    ensures ended { OnOk result (F.left folder.new ≡ Some []) }
     ensures files { (F.modelled folder.new).files ≡ (F.modelled folder.old).files }
     ensures steady { (F.modelled folder.new).steady ≡ (F.modelled folder.old).steady }
     ensures counted { CountsFault (F.modelled folder.old).faults (F.modelled folder.new).faults result }

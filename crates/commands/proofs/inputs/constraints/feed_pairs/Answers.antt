@@ -38,3 +38,7 @@ returns-in-Err-clause-modelled g c =
     (feed-refused (λ bytes. pairs_fed bytes domains) (λ bytes. pairs_of bytes domains) Rows (g.F.Folder.left c.args.folder.now) (g.F.Folder.left c.loop-piece.folder) (g.F.Folder.left c.next_piece.new.folder) c.deref.result.now c.args.reader c.loop-piece.reader
     (g.F.Folder.modelled c.loop-piece.folder).steady c.in-Err.why (λ xs ys why. pairs-refused xs ys domains why) (c.loop-piece.invariant.modelled domains)
     (λ rest e. (c.deref.ensures.value ∙ (c.in_ok-next_piece.ensures.modelled rest e).0, (c.in_ok-next_piece.ensures.modelled rest e).1)) (λ bytes had. c.in-Err.ensures bytes domains had) done rest e f))
+
+pub returns-then-is_empty-clause-ended : goal.returns-then-is_empty-clause-ended
+returns-then-is_empty-clause-ended g c =
+    c.in_ok-next_piece.ensures.ended (grind (arith, nat_tests, c.next_piece.new.piece.ok.0, c.is_empty.ensures, c.if-is_empty.true))

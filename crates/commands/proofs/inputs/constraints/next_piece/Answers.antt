@@ -1,0 +1,6 @@
+use Rattle.commands.proofs.TextReading.{has-ended}
+use Rattle.commands.proofs.inputs.constraints.next_piece.Goals as goal
+
+pub returns-in-Ok-clause-ended : goal.returns-in-Ok-clause-ended
+returns-in-Ok-clause-ended g c = λ none.
+    has-ended (g.F.Folder.left c.args.folder.now) (g.F.Folder.left c.piece.new.self) c.piece.new.into.items c.in-Ok.field-0 c.in-Ok.ensures.modelled none
