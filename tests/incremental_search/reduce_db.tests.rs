@@ -1,9 +1,7 @@
 use super::*;
-use crate::checked_access::saturating_u32;
-use crate::grid::Grid;
 use crate::hint::Reason;
-use crate::search_scope::NOWHERE;
-use crate::policy::USUAL;
+use local_search::local_search::NOWHERE;
+use search_base::checked_access::saturating_u32;
 use std::test::Fail;
 
 // For each line: the codes of its literals, its levels, its use, and the literals that remain. Six lines may be dropped, and the three
@@ -23,7 +21,7 @@ const LINES: &[(&[u32], u32, f64, &[u32])] = &[
 
 // Returns an engine of six stations on four channels with these lines and the own clause of station 0, after thinning.
 fn thinned(alloc: Global) -> Result<Engine, NoMemory> {
-    let mut engine = Engine::new(alloc, Grid::crowded(alloc, 6, 4)?, USUAL)?;
+    let mut engine = Engine::crowded(alloc, 6, 4)?;
     engine.put_on_channel(0, NOWHERE)?;
     let mut literals = Vec::new(alloc);
     for (number, line) in LINES.iter().enumerate() {
@@ -62,8 +60,8 @@ fn little_used_half_is_dropped(rt: HostRuntime) -> Result<(), Fail> {
     let mut engine = thinned(alloc)?;
     let own = stands(alloc, &mut engine.clauses, 0, Hint::Own(0), &[0, 2, 4, 6]);
     assert!(rt; own);
-    // Each clause takes two words besides its literals.
-    let mut at: u32 = 6;
+    // Each clause takes three words besides its literals.
+    let mut at: u32 = 7;
     let mut left: usize = 0;
     for (number, line) in LINES.iter().enumerate() {
         if line.3.is_empty() {
@@ -72,7 +70,7 @@ fn little_used_half_is_dropped(rt: HostRuntime) -> Result<(), Fail> {
         let name = Hint::Line(saturating_u32(number));
         let stays = stands(alloc, &mut engine.clauses, at, name, line.3);
         assert!(rt; stays, "line {number} at {at}");
-        at = at.saturating_add(saturating_u32(line.3.len())).saturating_add(2);
+        at = at.saturating_add(saturating_u32(line.3.len())).saturating_add(3);
         left = left.saturating_add(1);
     }
     assert_eq!(rt; engine.clauses.lines(), left);

@@ -1,11 +1,10 @@
 use super::*;
-use crate::policy::USUAL;
 use std::test::Fail;
 
 // Returns an engine over ten stations; no five of them fit. Its known disproof has this many lines, and is of the five stations from
 // `first`. The last of these is the tested one.
 fn known(alloc: Global, first: u32, lines: u32) -> Result<Engine, NoMemory> {
-    let mut engine = Engine::new(alloc, Grid::crowded(alloc, 10, 4)?, USUAL)?;
+    let mut engine = Engine::crowded(alloc, 10, 4)?;
     engine.tested = first.saturating_add(4);
     for line in 0..lines {
         engine.cone.lines.push(line)?;

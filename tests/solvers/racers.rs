@@ -107,13 +107,13 @@ fn kind_of(answer: &Answer) -> Said {
     }
 }
 
-// Returns the answers of two solvers of this kind to the test of station 8. The second may report long proofs.
+// Returns the answer of a solver of this kind to the test of station 8.
 fn of_kind(
     alloc: Global,
     kind: Kind,
     set: &[u32],
     last: &[(u32, u8)],
-) -> Result<[Said; 2], NoMemory> {
+) -> Result<Said, NoMemory> {
     let book = two_stations(alloc)?;
     let task = task(alloc, set, last)?;
     let worker = Worker {
@@ -122,17 +122,13 @@ fn of_kind(
         seed: 0,
     };
     let mut racer = RacerKind::for_worker(alloc, &worker)?;
-    let mut other = RacerKind::with_long_proofs(alloc, &worker)?;
-    Ok([
-        attempted(alloc, &mut racer, &worker, &book, &task),
-        attempted(alloc, &mut other, &worker, &book, &task),
-    ])
+    Ok(attempted(alloc, &mut racer, &worker, &book, &task))
 }
 
 #[test]
 fn one_station_fits_by_a_worker_of_each_kind(rt: HostRuntime) -> Result<(), Fail> {
     for kind in [Kind::Cdcl, Kind::Walk] {
-        assert_eq!(rt; of_kind(rt.alloc(), kind, &[8], &[])?, [Said::Fit; 2]);
+        assert_eq!(rt; of_kind(rt.alloc(), kind, &[8], &[])?, Said::Fit);
     }
     Ok(())
 }
@@ -143,8 +139,8 @@ fn two_stations_on_one_channel_are_refuted_by_a_worker_of_each_kind(
 ) -> Result<(), Fail> {
     let (set, last) = ([7, 8], [(7, 14)]);
     let by_learner = of_kind(rt.alloc(), Kind::Cdcl, &set, &last)?;
-    assert_eq!(rt; by_learner, [Said::Proof; 2]);
+    assert_eq!(rt; by_learner, Said::Proof);
     let by_walker = of_kind(rt.alloc(), Kind::Walk, &set, &last)?;
-    assert_eq!(rt; by_walker, [Said::DeadPair; 2]);
+    assert_eq!(rt; by_walker, Said::DeadPair);
     Ok(())
 }

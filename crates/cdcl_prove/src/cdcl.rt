@@ -21,12 +21,11 @@ use cert_types::poll::{Attempt, Poll};
 use cert_types::task::Task;
 use cnf_encode::encode::encode;
 use incremental_search::searcher::Searcher;
-use incremental_search::suggestion::LogLength;
-use incremental_search::tie_breaking::TieBreaking;
 use pack_defs::book::Book;
 use pack_defs::channel_map::ChannelMap;
 use pack_defs::worker::{Kind, Worker};
 use quick_fits::quick_fits::{QuickFitCounts, QuickFits};
+use search_base::tie_breaking::TieBreaking;
 use std::alloc::{AllocError as NoMemory, Global};
 use std::marker::Model;
 
@@ -65,32 +64,15 @@ impl Model for Cdcl {
 
 impl Cdcl {
     /// Returns the solver of a worker that learns. The worker's budget counts lines, and its seed breaks ties in the order of
-    /// decisions. If a proof is long, the solver searches for a shorter one. Fails only if memory runs out.
+    /// decisions. If a proof exceeds the budget, the solver searches for a shorter one. Fails only if memory runs out.
     pub fn new(alloc: Global, worker: &Worker) -> Result<Cdcl, NoMemory>
-        requires { worker.now.kind ≡ Kind.Cdcl }
-        ensures { IfOk result (λ solver. solver ≡ worker.now) }
-    {
-        Cdcl::with_logs(alloc, worker, LogLength::Short)
-    }
-
-    /// Returns the same solver, except that it searches for a shorter proof only if a proof exceeds the worker's budget. Use it for
-    /// auctions whose proofs nobody stores or reads. Fails only if memory runs out.
-    pub fn with_long_proofs(alloc: Global, worker: &Worker) -> Result<Cdcl, NoMemory>
-        requires { worker.now.kind ≡ Kind.Cdcl }
-        ensures { IfOk result (λ solver. solver ≡ worker.now) }
-    {
-        Cdcl::with_logs(alloc, worker, LogLength::Any)
-    }
-
-    // Returns the solver of a worker that learns, whose incremental searcher wants logs of this length.
-    fn with_logs(alloc: Global, worker: &Worker, logs: LogLength) -> Result<Cdcl, NoMemory>
         requires { worker.now.kind ≡ Kind.Cdcl }
         ensures { IfOk result (λ solver. solver ≡ worker.now) }
     {
         Ok(Cdcl {
             worker: *worker,
             quick_fits: QuickFits::new(alloc),
-            searcher: Searcher::new(worker.seed, logs),
+            searcher: Searcher::new(worker.seed),
             searched: SearchCounts {
                 fits: 0,
                 refuted: 0,
@@ -121,9 +103,9 @@ impl Cdcl {
     /// Quick fits come first: the tested station's last fit, a free channel, and one station that makes way. What a station's last
     /// fit changed is stored for its next query.
     ///
-    /// The incremental searcher comes next, with the clauses that it has learnt from earlier queries. It uses two policies, each
-    /// with up to `budget` conflicts for each station without a channel. If its proof exceeds the budget, or is long while short
-    /// proofs are wanted, it searches for a shorter one, once or twice. Its suggestion is checked before it becomes an answer.
+    /// The incremental searcher comes next, with the clauses that it has learnt from earlier queries and a local search beside it. It
+    /// has up to `budget` conflicts for each station without a channel. If its proof exceeds the budget, it searches for a shorter
+    /// one. Its suggestion is checked before it becomes an answer.
     ///
     /// Otherwise a new search begins, with the whole budget. If the searcher claims that some stations do not fit, the search is
     /// over these first. Then it is over the complete set. A receipt is always of the complete set. The poll is called before the

@@ -33,8 +33,8 @@ pub(crate) enum SearcherAnswer {
     Open,
 }
 
-/// Asks the incremental searcher and checks what it suggests. By each of its policies, the searcher may use as many conflicts for
-/// each tested station as the worker's budget has lines. Fails only if memory runs out.
+/// Asks the incremental searcher and checks what it suggests. The searcher may use as many conflicts for each tested station as the
+/// worker's budget has lines. Fails only if memory runs out.
 pub(crate) fn ask_searcher<P: Poll>(
     alloc: Global,
     book: &Book,

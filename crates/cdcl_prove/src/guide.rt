@@ -6,8 +6,8 @@ ghost use Rattle.cdcl_prove.specs.Guide.{IsOpenVariable, PickIs, VariableIs};
 
 use crate::policy::{STEPS_OF_CONFLICT, VARIABLE_DECAY};
 use clause_db::lit::Lit;
-use incremental_search::order::ActivityOrder;
-use incremental_search::tie_breaking::TieBreaking;
+use search_base::order::ActivityOrder;
+use search_base::tie_breaking::TieBreaking;
 use std::alloc::{AllocError as NoMemory, Global};
 use trail_prop::entry::TrailEntry;
 use trail_prop::trail::Trail;

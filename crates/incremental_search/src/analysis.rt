@@ -2,15 +2,15 @@
 //! hints by which the line follows.
 //!
 //! Beginning with the false clause, each literal of the last level is replaced by the literals that made it false, the latest first.
-//! This ends when one literal of that level is left. A literal that follows from others of the line is left out. The hints are the
-//! reasons that the false clause needs if the line's literals are false, in trail order, and then the clause itself.
+//! This ends when one literal of that level is left. `minimising` leaves literals out. The hints are the reasons that the false clause
+//! needs if the line's literals are false, in trail order, and then the clause itself.
 
-use crate::checked_access::{read, saturating_u32, write};
 use crate::engine::Engine;
 use crate::hint::{Hint, Reason};
 use crate::literal::Literal;
 use crate::marks::Mark;
 use crate::policy::STEPS_OF_CONFLICT;
+use search_base::checked_access::{read, saturating_u32, write};
 use std::alloc::AllocError as NoMemory;
 
 // Facts have ranks below this one, by their lines; the literals of the trail have ranks from this one on.
@@ -21,10 +21,12 @@ impl Engine {
     /// one to become true; the second has the highest level among the others, which is the returned level.
     pub(crate) fn analyse(&mut self, conflict: Reason) -> Result<u32, NoMemory> {
         self.resolve(conflict)?;
-        self.minimise();
+        self.minimise()?;
         self.marks.clear();
+        self.strengthen()?;
         self.gather_hints(conflict)?;
         self.marks.clear();
+        self.marks.forget_cut();
         self.search_scope.order.age();
         self.clauses.age();
         Ok(self.second_level())
@@ -93,37 +95,6 @@ impl Engine {
         Ok(open)
     }
 
-    // Leaves out each literal except the first whose reason consists of other literals of the line and facts.
-    fn minimise(&mut self) {
-        let mut kept: u32 = 1;
-        for place in 1..saturating_u32(self.line.len()) {
-            let literal = read(&self.line, place, Literal::of(0));
-            if self.is_needed(literal.var()) {
-                write(&mut self.line, kept, literal);
-                kept = kept.saturating_add(1);
-            }
-        }
-        self.line.truncate(kept as usize);
-    }
-
-    // Checks whether the reason of a variable has a literal that is neither in the line nor a fact.
-    fn is_needed(&self, var: u32) -> bool {
-        let reason = self.trail.reason_of(var);
-        if reason == Reason::Decision {
-            return true;
-        }
-        for place in 0..self.size(reason) {
-            let other = self.literal(reason, place).var();
-            if other != var
-                && self.trail.level_of(other) > 0
-                && self.marks.of(other) == Mark::Unseen
-            {
-                return true;
-            }
-        }
-        false
-    }
-
     // Gathers the hints of the finished line.
     fn gather_hints(&mut self, conflict: Reason) -> Result<(), NoMemory> {
         for place in 0..saturating_u32(self.line.len()) {
@@ -163,6 +134,9 @@ impl Engine {
                 self.marks.need(line as u64, Hint::Line(line))?;
             }
             return Ok(());
+        }
+        if let Some(v) = self.marks.cutter(var) {
+            return self.marks.need(0, Hint::Pair { v, w: var });
         }
         let hint = self.name(self.trail.reason_of(var));
         let rank = LITERALS + self.trail.place_of(var) as u64;

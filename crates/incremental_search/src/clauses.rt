@@ -1,15 +1,18 @@
 //! The stored clauses, which are the stations' own clauses and the learnt lines, and the two literals that each clause watches.
 
-use crate::checked_access::{read, saturating_u32};
 use crate::hint::Hint;
 use crate::literal::Literal;
-use crate::policy::{LINE_DECAY, MOST_ACTIVITY};
+use crate::policy::{LINE_DECAY, LITERALS_OF_SHORT_CLAUSE, MOST_USE};
 use crate::trail::{KeptTrail, Value};
+use search_base::checked_access::{read, saturating_u32, slice_between, write};
 use std::alloc::{AllocError as NoMemory, Global};
 use std::mem::replace;
 
-// A clause begins with its number of literals and the place of its head.
-const WORDS_BEFORE_LITERALS: u32 = 2;
+// A clause begins with its number of literals, the place of its head, and the place of the literal where its last new watch was found.
+const WORDS_BEFORE_LITERALS: u32 = 3;
+
+// The place of the third literal, where the search for a new watch begins.
+const FIRST_UNWATCHED: u32 = 2;
 
 /// A clause that watches a literal, and another literal of the clause, the blocker. If the blocker is true, the clause needs no visit.
 #[derive(Clone, Copy)]
@@ -127,6 +130,7 @@ impl KeptClauses {
         let at = saturating_u32(self.words.len());
         self.words.push(saturating_u32(literals.len()))?;
         self.words.push(saturating_u32(self.heads.len()))?;
+        self.words.push(FIRST_UNWATCHED)?;
         for literal in literals {
             self.words.push(literal.code)?;
         }
@@ -164,11 +168,11 @@ impl KeptClauses {
             return;
         }
         self.heads[place].used = self.heads[place].used + self.step;
-        if self.heads[place].used > MOST_ACTIVITY {
+        if self.heads[place].used > MOST_USE {
             for head in self.heads.iter_mut() {
-                head.used = head.used / MOST_ACTIVITY;
+                head.used = head.used / MOST_USE;
             }
-            self.step = self.step / MOST_ACTIVITY;
+            self.step = self.step / MOST_USE;
         }
     }
 
@@ -217,26 +221,42 @@ impl KeptClauses {
         if value == Value::True {
             return Ok(KeptWatchOutcome::Holds(first));
         }
-        for place in begin + 2..end {
-            let other = Literal {
-                code: self.words[place],
-            };
-            if trail.value(other) != Value::False {
-                self.words.swap(begin + 1, place);
-                self.watch(
-                    other,
-                    KeptWatch {
-                        at: watch.at,
-                        blocker: first,
-                    },
-                )?;
-                return Ok(KeptWatchOutcome::Moved);
-            }
+        if let Some(place) = self.find_unfalsified(trail, watch.at) {
+            self.watch_at(watch.at, place, first)?;
+            return Ok(KeptWatchOutcome::Moved);
         }
         if value == Value::False {
             return Ok(KeptWatchOutcome::False(first));
         }
         Ok(KeptWatchOutcome::Forces(first))
+    }
+
+    // Returns the place of a literal of a clause, from the third on, that is not false, if there is one. In a long clause the search goes
+    // on from where the last one ended, and round.
+    fn find_unfalsified(&mut self, trail: &KeptTrail, at: u32) -> Option<u32> {
+        let codes = self.codes(at);
+        let size = saturating_u32(codes.len());
+        if size <= LITERALS_OF_SHORT_CLAUSE {
+            return first_unfalsified(trail, codes, FIRST_UNWATCHED, size);
+        }
+        let from = read(&self.words, at.saturating_add(2), FIRST_UNWATCHED);
+        let found = match first_unfalsified(trail, codes, from, size) {
+            Some(place) => place,
+            None => first_unfalsified(trail, codes, FIRST_UNWATCHED, from)?,
+        };
+        write(&mut self.words, at.saturating_add(2), found);
+        Some(found)
+    }
+
+    // Swaps the literal at a place into the second place of a clause, which then watches it.
+    fn watch_at(&mut self, at: u32, place: u32, blocker: Literal) -> Result<(), NoMemory> {
+        let second = at.saturating_add(WORDS_BEFORE_LITERALS).saturating_add(1);
+        let literal = self.literal(at, place);
+        let old = read(&self.words, second, 0);
+        write(&mut self.words, second, literal.code);
+        let begin = at.saturating_add(WORDS_BEFORE_LITERALS);
+        write(&mut self.words, begin.saturating_add(place), old);
+        self.watch(literal, KeptWatch { at, blocker })
     }
 
     // Adds a clause to those that watch a literal.
@@ -247,4 +267,16 @@ impl KeptClauses {
         }
         Ok(())
     }
+}
+
+// Returns the first place from `from` on and before `to` of a literal that is not false, if there is one.
+fn first_unfalsified(trail: &KeptTrail, codes: &[u32], from: u32, to: u32) -> Option<u32> {
+    let mut place = from;
+    for code in slice_between(codes, from, to) {
+        if trail.value(Literal { code: *code }) != Value::False {
+            return Some(place);
+        }
+        place = place.saturating_add(1);
+    }
+    None
 }

@@ -1,9 +1,9 @@
 //! The cone of a refutation: what it needs of all that was learnt, traced backwards from its last line.
 
-use crate::checked_access::{filled, read, saturating_u32, write};
-use crate::grid::Grid;
 use crate::hint::Hint;
 use crate::lines::KeptLines;
+use search_base::checked_access::{filled, read, saturating_u32, write};
+use search_base::grid::Grid;
 use std::alloc::{AllocError as NoMemory, Global};
 
 /// The lines that a last line needs, ascending, with itself; and the places of the stations whose clauses or channels these lines name,

@@ -2,16 +2,17 @@
 
 use crate::clauses::KeptClauses;
 use crate::cone::Cone;
-use crate::grid::Grid;
 use crate::hint::{Hint, Reason};
 use crate::lines::KeptLines;
 use crate::literal::Literal;
 use crate::marks::AnalysisMarks;
-use crate::policy::{LINES_BETWEEN_REDUCTIONS, Policy};
-use crate::restarts::Restarts;
+use crate::policy::{LINES_BETWEEN_REDUCTIONS, Purpose, RESTART_UNIT};
 use crate::search_scope::{NOBODY, SearchScope};
-use crate::tie_breaking::TieBreaking;
 use crate::trail::KeptTrail;
+use local_search::local_search::{LocalSearch, Placement};
+use search_base::grid::Grid;
+use search_base::restarts::Restarts;
+use search_base::tie_breaking::TieBreaking;
 use std::alloc::{AllocError as NoMemory, Global};
 
 /// A conflict-driven search over the stations of a book. The variables are the channels of each station, and then a selector for each
@@ -26,12 +27,20 @@ pub(crate) struct Engine {
     pub(crate) cone: Cone,
     pub(crate) search_scope: SearchScope,
     pub(crate) marks: AnalysisMarks,
-    pub(crate) policy: Policy,
+    pub(crate) purpose: Purpose,
+    pub(crate) local_search: LocalSearch,
+    // The moves that the local search is to make next, and the conflicts for which it has made none yet.
+    pub(crate) moves_due: u32,
+    pub(crate) unmatched: u32,
+    // The changes of a known fit of the tested station.
+    pub(crate) from: Vec<Placement>,
     pub(crate) restarts: Restarts,
     pub(crate) is_due: bool,
     // The line being learnt.
     pub(crate) line: Vec<Literal>,
     pub(crate) hints: Vec<Hint>,
+    // The variables that a channel rules out.
+    pub(crate) ruled_out: Vec<u32>,
     // With more stored lines than this, some are dropped at the next restart.
     pub(crate) room: usize,
     // Whether the knowledge is contradictory.
@@ -43,32 +52,44 @@ pub(crate) struct Engine {
 }
 
 impl Engine {
-    /// Returns an engine that knows only the stations, none of which is on air.
-    pub(crate) fn new(alloc: Global, grid: Grid, policy: Policy) -> Result<Engine, NoMemory> {
+    /// Returns an engine that knows only the stations, none of which is on air. A seed other than 0 breaks ties by chance.
+    pub(crate) fn new(
+        alloc: Global,
+        grid: Grid,
+        purpose: Purpose,
+        seed: u64,
+    ) -> Result<Engine, NoMemory> {
         let vars = grid.vars().saturating_add(grid.stations());
-        Ok(Engine {
+        let mut engine = Engine {
             trail: KeptTrail::new(alloc, vars)?,
             clauses: KeptClauses::new(alloc, vars)?,
             lines: KeptLines::new(alloc, vars)?,
             cone: Cone::new(alloc),
             search_scope: SearchScope::new(alloc, grid.stations(), vars)?,
             marks: AnalysisMarks::new(alloc, vars)?,
-            restarts: Restarts::new(policy.restart_unit),
-            policy,
+            restarts: Restarts::new(RESTART_UNIT),
+            purpose,
+            local_search: LocalSearch::new(alloc, &grid, seed)?,
+            moves_due: 0,
+            unmatched: 0,
+            from: Vec::new(alloc),
             is_due: false,
             line: Vec::new(alloc),
             hints: Vec::new(alloc),
+            ruled_out: Vec::new(alloc),
             room: LINES_BETWEEN_REDUCTIONS,
             is_lost: false,
             set: Vec::new(alloc),
             tested: NOBODY,
             waiting: Vec::new(alloc),
             grid,
-        })
+        };
+        engine.break_ties_by_chance(seed);
+        Ok(engine)
     }
 
-    /// Makes a seed other than 0 break ties by chance.
-    pub(crate) fn break_ties_by_chance(&mut self, seed: u64) {
+    // Makes a seed other than 0 break ties by chance.
+    fn break_ties_by_chance(&mut self, seed: u64) {
         if seed != 0 {
             let ties = TieBreaking::new(seed, 0);
             self.search_scope
@@ -99,14 +120,9 @@ impl Engine {
         Ok(())
     }
 
-    /// Brings the station at a place into play: its variables can be decided, and its last channel is tried first.
+    /// Brings the station at a place into play: its variables can be decided.
     pub(crate) fn bring_into_play(&mut self, place: u32) -> Result<(), NoMemory> {
-        if self.search_scope.bring_in(place)? {
-            let channel = self.search_scope.station_state(place).channel;
-            for var in self.grid.vars_of(place) {
-                self.search_scope.set_phase(var, var == channel);
-            }
-        }
+        self.search_scope.bring_in(place)?;
         for var in self.grid.vars_of(place) {
             if self.trail.is_open(var) {
                 self.search_scope.order.put(var)?;
@@ -122,7 +138,6 @@ impl Engine {
                 break;
             };
             let var = literal.var();
-            self.search_scope.set_phase(var, !literal.is_negated());
             if self.is_channel(var)
                 && self
                     .search_scope

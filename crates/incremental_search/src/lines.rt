@@ -1,9 +1,9 @@
 //! Every learnt line that a log may still need.
 
-use crate::checked_access::{filled, read, saturating_u32, slice_between, write};
 use crate::hint::Hint;
 use crate::literal::Literal;
 use crate::policy::LINES_HELD_TO_ONE_NEW;
+use search_base::checked_access::{filled, read, saturating_u32, slice_between, write};
 use std::alloc::{AllocError as NoMemory, Global};
 
 // The flags of a hint's first word: `PAIR` for the first of two variables, `OWN` for the place of a station, none for the number of a

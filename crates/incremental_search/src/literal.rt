@@ -21,15 +21,6 @@ impl Literal {
         }
     }
 
-    /// Returns the literal that is true if the variable has this value.
-    pub(crate) fn of_value(var: u32, value: bool) -> Literal {
-        if value {
-            Literal::of(var)
-        } else {
-            Literal::negation_of(var)
-        }
-    }
-
     /// Returns the variable's number.
     pub(crate) fn var(self) -> u32 {
         self.code >> 1

@@ -1,7 +1,7 @@
 //! The marks and scratch lists of conflict analysis.
 
-use crate::checked_access::{filled, read, write};
 use crate::hint::Hint;
+use search_base::checked_access::{filled, read, write};
 use std::alloc::{AllocError as NoMemory, Global};
 
 /// What an analysis has done with a variable.
@@ -16,7 +16,11 @@ pub(crate) enum Mark {
     InLine,
 }
 
-/// A clause that a line's derivation uses, with its rank: facts come first, by their lines, then the reasons of literals in trail order.
+// The channel because of which a variable was cut that was not.
+const NOT_CUT: u32 = u32::MAX;
+
+/// A clause that a line's derivation uses, with its rank: pairs of cut literals come first, then facts, by their lines, then the reasons
+/// of literals in trail order.
 #[derive(Clone, Copy)]
 struct Antecedent {
     rank: u64,
@@ -31,6 +35,10 @@ pub(crate) struct AnalysisMarks {
     // For each level the last count that met the level.
     counted: Vec<u32>,
     count: u32,
+    // For each variable whether it may be cut from the line, and the channel that excludes it, if it was cut; and those that were cut.
+    candidates: Vec<bool>,
+    cutters: Vec<u32>,
+    cut: Vec<u32>,
     // Variables whose reasons are still to be visited, and the hints so far.
     waiting: Vec<u32>,
     antecedents: Vec<Antecedent>,
@@ -44,6 +52,9 @@ impl AnalysisMarks {
             marked: Vec::new(alloc),
             counted: filled(alloc, vars.saturating_add(1), 0)?,
             count: 0,
+            candidates: filled(alloc, vars, false)?,
+            cutters: filled(alloc, vars, NOT_CUT)?,
+            cut: Vec::new(alloc),
             waiting: Vec::new(alloc),
             antecedents: Vec::new(alloc),
         })
@@ -81,6 +92,60 @@ impl AnalysisMarks {
             write(&mut self.marks, *var, Mark::Unseen);
         }
         self.marked.clear();
+    }
+
+    /// Returns the number of marked variables.
+    pub(crate) fn count(&self) -> usize {
+        self.marked.len()
+    }
+
+    /// Resets the marks of the variables that were marked since `count` returned this number.
+    pub(crate) fn forget_since(&mut self, count: usize) {
+        for _ in 0..self.marked.len() {
+            if self.marked.len() <= count {
+                return;
+            }
+            let Some(var) = self.marked.pop() else {
+                return;
+            };
+            write(&mut self.marks, var, Mark::Unseen);
+        }
+    }
+
+    /// Sets whether a variable may be cut from the line.
+    pub(crate) fn set_candidate(&mut self, var: u32, may: bool) {
+        write(&mut self.candidates, var, may);
+    }
+
+    /// Cuts a variable that may be cut, because the channel of `cutter` excludes it.
+    pub(crate) fn cut_candidate(&mut self, var: u32, cutter: u32) -> Result<(), NoMemory> {
+        if read(&self.candidates, var, false) {
+            write(&mut self.candidates, var, false);
+            write(&mut self.cutters, var, cutter);
+            self.cut.push(var)?;
+        }
+        Ok(())
+    }
+
+    /// Returns the channel because of which a variable was cut, if it was.
+    pub(crate) fn cutter(&self, var: u32) -> Option<u32> {
+        match read(&self.cutters, var, NOT_CUT) {
+            NOT_CUT => None,
+            cutter => Some(cutter),
+        }
+    }
+
+    /// Forgets what was cut.
+    pub(crate) fn forget_cut(&mut self) {
+        for var in &self.cut {
+            write(&mut self.cutters, *var, NOT_CUT);
+        }
+        self.cut.clear();
+    }
+
+    /// Begins a list of variables whose reasons are to be visited.
+    pub(crate) fn begin_waiting(&mut self) {
+        self.waiting.clear();
     }
 
     /// Begins a list of hints.

@@ -3,15 +3,15 @@
 //! The formula's clauses are numbered: first a clause for each station, then for each station its channels two by two, then the pairs
 //! that interfere.
 
-use crate::checked_access::{read, saturating_u32, slice_between, write};
 use crate::cone::Cone;
 use crate::engine::Engine;
-use crate::grid::Grid;
 use crate::hint::Hint;
 use crate::literal::Literal;
 use clause_db::lit::Lit;
 use rup_check::line::Log;
 use rup_check::lines::Lines;
+use search_base::checked_access::{read, saturating_u32, slice_between, write};
+use search_base::grid::Grid;
 use std::alloc::{AllocError as NoMemory, Global};
 
 /// The numbers of the formula's variables and clauses.

@@ -1,14 +1,22 @@
 //! How stations come on air, and how a query begins and ends.
 
-use crate::checked_access::{read, saturating_u32};
 use crate::engine::Engine;
 use crate::hint::{Hint, Reason};
 use crate::literal::Literal;
-use crate::policy::Policy;
-use crate::restarts::Restarts;
-use crate::search_scope::{NOBODY, NOWHERE};
+use crate::policy::{MOVES_BEFORE_SEARCH, Purpose, RESTART_UNIT};
+use crate::search_scope::NOBODY;
 use crate::trail::Value;
-use std::alloc::AllocError as NoMemory;
+use local_search::local_search::{NOWHERE, Placement};
+use search_base::checked_access::{read, saturating_u32};
+use search_base::restarts::Restarts;
+use std::alloc::{AllocError as NoMemory, Global};
+use std::mem::replace;
+
+// What no change is.
+const NO_CHANGE: Placement = Placement {
+    place: NOBODY,
+    var: NOWHERE,
+};
 
 impl Engine {
     /// Puts the station at a place on air, on the channel of this variable.
@@ -17,9 +25,8 @@ impl Engine {
         if !standing.on_air {
             self.put_on_air_for_good(place)?;
         }
-        let mut standing = self.search_scope.station_state(place);
-        standing.channel = var;
-        self.search_scope.set(place, standing);
+        self.set_channel(place, var);
+        self.local_search.set_channel(&self.grid, place, var);
         Ok(())
     }
 
@@ -34,41 +41,46 @@ impl Engine {
         others.saturating_mul(one_in) <= saturating_u32(stations.len())
     }
 
-    /// Begins the test of the station at a place together with the stations on air, by this policy.
-    pub(crate) fn begin(&mut self, place: u32, policy: Policy) -> Result<(), NoMemory> {
+    /// Begins the test of the station at a place together with the stations on air. Lines are dropped first, if there are many.
+    pub(crate) fn begin(&mut self, alloc: Global, place: u32) -> Result<(), NoMemory> {
         self.backjump_to(0)?;
         self.search_scope.clear();
+        self.reduce_lines(alloc)?;
         self.tested = place;
-        self.policy = policy;
-        let mut standing = self.search_scope.station_state(place);
-        standing.channel = NOWHERE;
-        self.search_scope.set(place, standing);
+        self.from.clear();
+        self.set_channel(place, NOWHERE);
         self.activate(place)?;
-        self.restarts = Restarts::new(policy.restart_unit);
+        self.restarts = Restarts::new(RESTART_UNIT);
         self.is_due = false;
+        self.unmatched = 0;
         self.bring_into_play(place)?;
-        if policy.all_in_play {
-            self.bring_set_into_play()?;
+        match self.purpose {
+            Purpose::Answers => self.moves_due = MOVES_BEFORE_SEARCH,
+            Purpose::ShorterLog => self.bring_set_into_play()?,
         }
         Ok(())
     }
 
-    /// Continues the current test by another policy. The search restarts but keeps the last values of its variables.
-    pub(crate) fn restart_with_policy(&mut self, policy: Policy) -> Result<(), NoMemory> {
-        self.backjump_to(0)?;
-        self.policy = policy;
-        self.restarts = Restarts::new(policy.restart_unit);
-        self.is_due = false;
-        self.bring_set_into_play()
+    /// Makes a channel of the station at a place part of the known fit from which the search begins.
+    pub(crate) fn begin_from(&mut self, place: u32, var: u32) -> Result<(), NoMemory> {
+        self.bring_into_play(place)?;
+        self.from.push(Placement { place, var })?;
+        Ok(())
     }
 
-    /// Makes the search try the station at a place on the channel of this variable first.
-    pub(crate) fn prefer(&mut self, place: u32, var: u32) -> Result<(), NoMemory> {
-        self.bring_into_play(place)?;
-        let last = self.search_scope.station_state(place).channel;
-        self.search_scope.set_phase(last, false);
-        self.search_scope.set_phase(var, true);
-        Ok(())
+    /// Lets the local search make the moves that are due. Returns whether it found a fit, which is then adopted.
+    pub(crate) fn find_by_moves(&mut self) -> Result<bool, NoMemory> {
+        let moves = replace(&mut self.moves_due, 0);
+        let found = self
+            .local_search
+            .find(&self.grid, self.tested, &self.from, moves)?;
+        if found {
+            for i in 0..saturating_u32(self.local_search.changes().len()) {
+                let change = read(self.local_search.changes(), i, NO_CHANGE);
+                self.adopt(change.place, change.var);
+            }
+        }
+        Ok(found)
     }
 
     /// Adopts the fit on the trail: each station of the set, the tested one included, gets its new channel.
@@ -80,10 +92,8 @@ impl Engine {
                 continue;
             }
             let place = self.grid.owner(var);
-            let mut standing = self.search_scope.station_state(place);
-            if standing.in_set {
-                standing.channel = var;
-                self.search_scope.set(place, standing);
+            if self.search_scope.is_in_set(place) {
+                self.adopt(place, var);
             }
         }
     }
@@ -96,6 +106,20 @@ impl Engine {
         standing.in_set = standing.on_air;
         self.search_scope.set(self.tested, standing);
         Ok(())
+    }
+
+    // Gives a station a channel of a fit. The tested station is not on air, so the map of the local search stays without it.
+    fn adopt(&mut self, place: u32, var: u32) {
+        self.set_channel(place, var);
+        if place != self.tested {
+            self.local_search.set_channel(&self.grid, place, var);
+        }
+    }
+
+    fn set_channel(&mut self, place: u32, var: u32) {
+        let mut standing = self.search_scope.station_state(place);
+        standing.channel = var;
+        self.search_scope.set(place, standing);
     }
 
     fn is_on_air(&self, station: u32) -> bool {

@@ -3,67 +3,37 @@
 //! `benchmarks/run` times single auctions with the searcher, and `benchmarks/batch` many at once. The comments cite what they, and a
 //! model of the searcher, found for single parameters (`benchmarks/README.md`, and `docs/DECISIONS.md` of the model).
 
-/// How a search proceeds.
-#[derive(Clone, Copy, Debug)]
-pub(crate) struct Policy {
-    /// The search restarts after Luby's numbers times this many conflicts.
-    pub(crate) restart_unit: u64,
-    /// Whether each station of the set is in play from the start, not only those whose last channel is lost.
-    pub(crate) all_in_play: bool,
-    /// Whether a variable is first tried as true, not with its last value.
-    pub(crate) channels_first: bool,
+/// What an engine searches for.
+#[derive(Clone, Copy, Debug, PartialEq, Eq)]
+pub(crate) enum Purpose {
+    /// Answers to the queries of an auction. Only stations whose last channel is lost come into play, since most fits leave most
+    /// stations where they are, and the local search looks for fits beside the search.
+    Answers,
+    /// A shorter log of a refutation. Each of its stations is in play from the start.
+    ShorterLog,
 }
 
-/// The search for an answer. Most fits leave most stations where they are, and are near the last fit of the tested station. Chosen
-/// without a measurement.
-pub(crate) const USUAL: Policy = Policy {
-    restart_unit: 64,
-    all_in_play: false,
-    channels_first: false,
-};
+/// The search restarts after Luby's numbers times this many conflicts. The local search finds most fits, so restarts are as rare as
+/// refutations like them.
+pub(crate) const RESTART_UNIT: u64 = 4096;
 
-/// The search after the usual one has spent its effort: fits that move many stations need longer runs. Its use was counted in three
-/// auctions of the preset `hard` with 300 stations. With budgets of 300 to 10,000 lines it settled few tests, and the auctions took 0.9
-/// to 2.4 times as long (`benchmarks/README.md`). The unit was chosen without a measurement.
-pub(crate) const PATIENT: Policy = Policy {
-    restart_unit: 1024,
-    all_in_play: true,
-    channels_first: false,
-};
+/// The moves of the local search before a search.
+pub(crate) const MOVES_BEFORE_SEARCH: u32 = 300;
 
-/// The search for a shorter log of a refutation over its stations alone, without detours through other queries. In a model of the
-/// searcher, these searches reduced the logs of a national auction from 2,033,923 to 1,123,787 lines (`docs/DECISIONS.md`). The
-/// parameters of the two policies were chosen without a measurement.
-pub(crate) const SHORTENING: [Policy; 2] = [
-    Policy {
-        restart_unit: 64,
-        all_in_play: true,
-        channels_first: true,
-    },
-    Policy {
-        restart_unit: 64,
-        all_in_play: true,
-        channels_first: false,
-    },
-];
+/// The moves of the local search for each conflict of the search beside it.
+pub(crate) const MOVES_OF_CONFLICT: u32 = 20;
 
-/// A longer log than this is searched for again over its stations alone, since it is written, read and checked again. Without that
-/// search the transcript of the first national auction had 340 MB (`benchmarks/README.md`). Among other bounds the model tried only
-/// 5,000, with a search from scratch each time (`docs/DECISIONS.md`).
-pub(crate) const LINES_OF_SHORT_LOG: usize = 3000;
+/// The local search makes its moves after every this many conflicts.
+pub(crate) const CONFLICTS_BETWEEN_MOVES: u32 = 256;
 
-/// A log that is then still longer than this is searched for again by the second policy, since its length may be worth another search.
-/// Chosen without a measurement.
-pub(crate) const LINES_OF_LONG_LOG: usize = 20_000;
+/// A clause with more literals than this remembers where its last watch was found.
+pub(crate) const LITERALS_OF_SHORT_CLAUSE: u32 = 6;
 
-/// For each `LINES_OF_SHARE` lines of a log that a worker may write, the search for a shorter one may have `CONFLICTS_OF_SHARE`
-/// conflicts.
-pub(crate) const LINES_OF_SHARE: usize = 5;
+/// A search for a shorter log has this many times the worker's budget of conflicts.
+pub(crate) const BUDGETS_OF_SHORTER_LOG: u32 = 3;
 
-/// A log has about as many lines as its search had conflicts, and a log that is hardly shorter isn't worth the search. With three
-/// conflicts for each five lines, these searches had 406,617 conflicts in the model of a national auction (`docs/DECISIONS.md`). No
-/// other share is on record.
-pub(crate) const CONFLICTS_OF_SHARE: usize = 3;
+/// A log that is still too long is searched for again from nothing, over its stations alone, up to this many times.
+pub(crate) const SEARCHES_FROM_NOTHING: u32 = 3;
 
 /// The crowd's engine is used if at most one in this many of a log's stations is new to it. Lines learnt of other stations lead through
 /// those stations. With one engine for all crowds, the model left 1,401,062 lines of logs, and with one for each crowd 1,123,787
@@ -73,19 +43,14 @@ pub(crate) const GROUP_STATIONS_TO_ONE_NEW: u32 = 5;
 /// A conflict makes each variable that it meets more active by this many steps. Chosen without a measurement.
 pub(crate) const STEPS_OF_CONFLICT: f64 = 1.0;
 
-/// The step of variable activity grows by 1 / 0.98 with each conflict. Chosen without a measurement.
-pub(crate) const VARIABLE_DECAY: f64 = 0.98;
+/// The step of variable activity grows by 1 / 0.92 with each conflict.
+pub(crate) const VARIABLE_DECAY: f64 = 0.92;
 
 /// The step of line use grows by 1 / 0.999 with each conflict, so that lines of late conflicts are kept. Chosen without a measurement.
 pub(crate) const LINE_DECAY: f64 = 0.999;
 
-/// If a variable's activity or a line's use exceeds this, all are scaled down, so that none overflows an `f64`. Chosen without a
-/// measurement.
-pub(crate) const MOST_ACTIVITY: f64 = 1e100;
-
-/// The random initial activity of a variable is below this many steps. A preference or a conflict counts for 1.0 or more on the same
-/// scale, so chance decides ties and hardly anything else. Chosen without a measurement.
-pub(crate) const CHANCE_BELOW: f64 = 0.001;
+/// If a line's use exceeds this, all are scaled down, so that none overflows an `f64`. Chosen without a measurement.
+pub(crate) const MOST_USE: f64 = 1e100;
 
 /// The number of lines learnt between two thinnings, so that propagation doesn't visit ever more of them. Chosen without a measurement.
 pub(crate) const LINES_BETWEEN_REDUCTIONS: usize = 4000;

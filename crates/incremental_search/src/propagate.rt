@@ -11,6 +11,7 @@ use crate::engine::Engine;
 use crate::hint::Reason;
 use crate::literal::Literal;
 use crate::trail::Value;
+use search_base::checked_access::{read, saturating_u32};
 use std::alloc::{AllocError as NoMemory, Global};
 
 impl Engine {
@@ -35,36 +36,42 @@ impl Engine {
 
     // Propagates a channel that became true: the station is on no other channel, and no station is on a channel that interferes.
     fn clear_channel(&mut self, v: u32) -> Result<Option<Reason>, NoMemory> {
-        for w in self.grid.vars_of(self.grid.owner(v)) {
-            if w != v && !self.is_ruled_out(v, w)? {
-                return Ok(Some(Reason::Pair { v, w }));
-            }
+        if let Some(w) = self.list_ruled_out(v)? {
+            return Ok(Some(Reason::Pair { v, w }));
         }
-        for place in self.grid.rivals_of(v) {
-            let w = self.grid.rival(place);
-            if self.trail.value(Literal::of(w)) == Value::False {
-                continue;
-            }
-            if !self.search_scope.is_in_set(self.grid.owner(w)) {
-                continue;
-            }
-            if !self.is_ruled_out(v, w)? {
-                return Ok(Some(Reason::Pair { v, w }));
-            }
+        for i in 0..saturating_u32(self.ruled_out.len()) {
+            let w = read(&self.ruled_out, i, 0);
+            self.assign(Literal::negation_of(w), Reason::Pair { v, w })?;
         }
         Ok(None)
     }
 
-    // Makes a variable false that may not be true together with another one. Returns false if the variable is true already.
-    fn is_ruled_out(&mut self, v: u32, w: u32) -> Result<bool, NoMemory> {
-        match self.trail.value(Literal::of(w)) {
-            Value::True => Ok(false),
-            Value::False => Ok(true),
-            Value::Open => {
-                self.assign(Literal::negation_of(w), Reason::Pair { v, w })?;
-                Ok(true)
+    // Lists the open variables of the set's stations that may not be true together with this one. Returns one of them that is true
+    // already, if there is one.
+    fn list_ruled_out(&mut self, v: u32) -> Result<Option<u32>, NoMemory> {
+        self.ruled_out.clear();
+        for w in self.grid.vars_of(self.grid.owner(v)) {
+            match self.trail.value(Literal::of(w)) {
+                Value::False => {}
+                Value::Open => self.ruled_out.push(w)?,
+                Value::True => {
+                    if w != v {
+                        return Ok(Some(w));
+                    }
+                }
             }
         }
+        for w in self.grid.rival_list(v) {
+            let value = self.trail.value(Literal::of(*w));
+            if value == Value::False || !self.search_scope.is_in_set(self.grid.owner(*w)) {
+                continue;
+            }
+            if value == Value::True {
+                return Ok(Some(*w));
+            }
+            self.ruled_out.push(*w)?;
+        }
+        Ok(None)
     }
 
     // Visits each clause that watches a literal which became false.

@@ -2,16 +2,17 @@
 //! other, each together with those before it.
 //!
 //! `search` takes turn after turn, and stays undecided after a given number of learnt lines. If the tested station fits, its fit is
-//! adopted, and the search ends with `QueryProgress::Next` if another station waits, otherwise with `QueryProgress::Fits`. If the station is refuted,
-//! the search ends with the line of the refutation. A contradiction ends the search too.
+//! adopted, and the search ends with `QueryProgress::Next` if another station waits, otherwise with `QueryProgress::Fits`. If the
+//! station is refuted, the search ends with the line of the refutation. A contradiction ends the search too.
 
 ghost use Rattle.std.specs.Bool.{OnTrue};
 ghost use Rattle.pack_defs.specs.ChannelMap.{IsAscending};
 
 use crate::engine::Engine;
-use crate::policy::{Policy, USUAL};
-use crate::search_scope::{NOBODY, NOWHERE};
+use crate::policy::{CONFLICTS_BETWEEN_MOVES, MOVES_OF_CONFLICT, Purpose};
+use crate::search_scope::NOBODY;
 use crate::search_step::StepOutcome;
+use local_search::local_search::NOWHERE;
 use pack_defs::channel_map::ChannelMap;
 use std::alloc::{AllocError as NoMemory, Global};
 
@@ -34,6 +35,7 @@ impl Engine {
     /// Begins a query of this set. The stations without a channel in the last map are tested.
     pub(crate) fn begin_query(
         &mut self,
+        alloc: Global,
         set: &[u32],
         last: &ChannelMap,
         from: Option<&ChannelMap>,
@@ -45,10 +47,10 @@ impl Engine {
         for station in set.iter().rev() {
             self.add_to_set(*station, last.get(*station))?;
         }
-        self.test_next()?;
+        self.test_next(alloc)?;
         if let Some(fit) = from {
             for entry in fit.entries() {
-                self.prefer_entry(entry.0, entry.1)?;
+                self.begin_from_entry(entry.0, entry.1)?;
             }
         }
         Ok(())
@@ -57,9 +59,9 @@ impl Engine {
     /// Begins the test of one of these stations together with the others, which come on air if they are not yet.
     pub(crate) fn begin_one_test(
         &mut self,
+        alloc: Global,
         stations: &[u32],
         tested: u32,
-        policy: Policy,
     ) -> Result<(), NoMemory> {
         self.end()?;
         self.set.clear();
@@ -72,7 +74,7 @@ impl Engine {
             }
         }
         match self.grid.place_of(tested) {
-            Some(place) => self.begin(place, policy),
+            Some(place) => self.begin(alloc, place),
             None => Ok(()),
         }
     }
@@ -88,19 +90,21 @@ impl Engine {
         }
         let mut learnt: u32 = 0;
         for _ in 0..u64::MAX {
+            if self.moves_due > 0 && self.find_by_moves()? {
+                return self.finish_test(alloc);
+            }
             match self.search_step(alloc)? {
                 StepOutcome::Continues => {}
                 StepOutcome::Learnt => {
+                    self.match_conflict();
                     learnt = learnt.saturating_add(1);
                     if learnt >= conflicts {
                         break;
                     }
                 }
                 StepOutcome::Fits => {
-                    if self.finish_test()? {
-                        return Ok(QueryProgress::Next);
-                    }
-                    return Ok(QueryProgress::Fits);
+                    self.apply_fit();
+                    return self.finish_test(alloc);
                 }
                 StepOutcome::Refuted { line } => {
                     self.end()?;
@@ -141,7 +145,10 @@ impl Engine {
         };
         self.set.push(place)?;
         match channel {
-            None => self.waiting.push(place)?,
+            None => {
+                self.local_search.set_channel(&self.grid, place, NOWHERE);
+                self.waiting.push(place)?;
+            }
             Some(channel) => {
                 if let Some(var) = self.grid.var_of(place, channel) {
                     self.put_on_channel(place, var)?;
@@ -151,16 +158,25 @@ impl Engine {
         Ok(())
     }
 
-    // Begins the test of the next waiting station, and returns whether one waited.
-    fn test_next(&mut self) -> Result<bool, NoMemory> {
+    // Begins the test of the next waiting station, if one waits. Otherwise every station has a channel.
+    fn test_next(&mut self, alloc: Global) -> Result<QueryProgress, NoMemory> {
         let Some(place) = self.waiting.pop() else {
-            return Ok(false);
+            return Ok(QueryProgress::Fits);
         };
-        self.begin(place, USUAL)?;
-        Ok(true)
+        self.begin(alloc, place)?;
+        Ok(QueryProgress::Next)
     }
 
-    fn prefer_entry(&mut self, station: u32, channel: u8) -> Result<(), NoMemory> {
+    // Counts a conflict, for which the local search makes moves too.
+    fn match_conflict(&mut self) {
+        self.unmatched = self.unmatched.saturating_add(1);
+        if self.unmatched >= CONFLICTS_BETWEEN_MOVES && self.purpose == Purpose::Answers {
+            self.moves_due = self.unmatched.saturating_mul(MOVES_OF_CONFLICT);
+            self.unmatched = 0;
+        }
+    }
+
+    fn begin_from_entry(&mut self, station: u32, channel: u8) -> Result<(), NoMemory> {
         let Some(place) = self.grid.place_of(station) else {
             return Ok(());
         };
@@ -168,22 +184,21 @@ impl Engine {
             return Ok(());
         };
         if self.search_scope.is_in_set(place) {
-            self.prefer(place, var)?;
+            self.begin_from(place, var)?;
         }
         Ok(())
     }
 
-    // Adopts the fit of the tested station, and returns whether another station waits, whose test is then begun.
-    fn finish_test(&mut self) -> Result<bool, NoMemory> {
-        self.apply_fit();
+    // Ends the test of a station whose fit is adopted, and begins the next one, if a station waits.
+    fn finish_test(&mut self, alloc: Global) -> Result<QueryProgress, NoMemory> {
         self.end()?;
         if self.waiting.is_empty() {
-            return Ok(false);
+            return Ok(QueryProgress::Fits);
         }
         let place = self.tested;
         let channel = self.search_scope.station_state(place).channel;
         self.put_on_channel(place, channel)?;
-        self.test_next()
+        self.test_next(alloc)
     }
 
     fn channel_of(&self, station: u32) -> Option<u8> {

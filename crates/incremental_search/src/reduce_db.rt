@@ -1,6 +1,5 @@
 //! Thinning: now and then some of the little used lines are dropped, and the rest are compacted.
 
-use crate::checked_access::{filled, write};
 use crate::clauses::{ClauseHead, KeptClauses};
 use crate::engine::Engine;
 use crate::hint::Hint;
@@ -10,6 +9,7 @@ use crate::policy::{
     SPARE_LINES_BEFORE_SWEEP,
 };
 use crate::trail::Value;
+use search_base::checked_access::{filled, write};
 use std::alloc::{AllocError as NoMemory, Global};
 use std::cmp::OrderedFloat;
 use std::mem::replace;

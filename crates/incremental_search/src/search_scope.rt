@@ -1,12 +1,10 @@
 //! The state of each station, which stations a query has in play, and which variable is decided next.
 
-use crate::checked_access::{filled, read, write};
-use crate::order::ActivityOrder;
 use crate::policy::VARIABLE_DECAY;
+use local_search::local_search::NOWHERE;
+use search_base::checked_access::{filled, read, write};
+use search_base::order::ActivityOrder;
 use std::alloc::{AllocError as NoMemory, Global};
-
-/// The variable of a station without a channel.
-pub(crate) const NOWHERE: u32 = u32::MAX;
 
 /// The place of no station.
 pub(crate) const NOBODY: u32 = u32::MAX;
@@ -33,12 +31,10 @@ const OFF_AIR: StationState = StationState {
     channel: NOWHERE,
 };
 
-/// The states of the stations, and the order and phases that guide the search among those in play.
+/// The states of the stations, and the order of decisions among those in play.
 #[derive(Drop)]
 pub(crate) struct SearchScope {
     station_states: Vec<StationState>,
-    // For each variable its last value, with which it is tried first.
-    phases: Vec<bool>,
     pub(crate) order: ActivityOrder,
     // The places of the stations in play.
     played: Vec<u32>,
@@ -49,7 +45,6 @@ impl SearchScope {
     pub(crate) fn new(alloc: Global, stations: u32, vars: u32) -> Result<SearchScope, NoMemory> {
         Ok(SearchScope {
             station_states: filled(alloc, stations, OFF_AIR)?,
-            phases: filled(alloc, vars, false)?,
             order: ActivityOrder::new(alloc, vars, VARIABLE_DECAY)?,
             played: Vec::new(alloc),
         })
@@ -70,26 +65,16 @@ impl SearchScope {
         self.station_state(place).in_set
     }
 
-    /// Returns the value with which a variable is tried first.
-    pub(crate) fn phase(&self, var: u32) -> bool {
-        read(&self.phases, var, false)
-    }
-
-    /// Sets the value with which a variable is tried first.
-    pub(crate) fn set_phase(&mut self, var: u32, value: bool) {
-        write(&mut self.phases, var, value);
-    }
-
-    /// Brings the station at a place into play, and returns whether it was out of play before.
-    pub(crate) fn bring_in(&mut self, place: u32) -> Result<bool, NoMemory> {
+    /// Brings the station at a place into play, if it is not.
+    pub(crate) fn bring_in(&mut self, place: u32) -> Result<(), NoMemory> {
         let mut standing = self.station_state(place);
         if standing.in_play {
-            return Ok(false);
+            return Ok(());
         }
         standing.in_play = true;
         self.set(place, standing);
         self.played.push(place)?;
-        Ok(true)
+        Ok(())
     }
 
     /// Takes all stations out of play, and all variables out of the order.

@@ -1,11 +1,11 @@
 //! One turn of the search: propagate, and then learn from a conflict, restart, or decide.
 
-use crate::checked_access::read;
 use crate::engine::Engine;
 use crate::hint::{Hint, Reason};
 use crate::literal::Literal;
 use crate::search_scope::NOBODY;
 use crate::trail::Value;
+use search_base::checked_access::read;
 use std::alloc::{AllocError as NoMemory, Global};
 
 /// The result of a turn.
@@ -99,13 +99,12 @@ impl Engine {
         }
     }
 
-    // Picks the most active open variable of a station in play, with its last value or, by policy, true.
+    // Picks the most active open variable of a station in play, which is tried as true.
     fn pick(&mut self) -> Option<Literal> {
         for _ in 0..self.search_scope.order.len() {
             let var = self.search_scope.order.take()?;
             if self.trail.is_open(var) && self.search_scope.is_in_set(self.grid.owner(var)) {
-                let value = self.policy.channels_first || self.search_scope.phase(var);
-                return Some(Literal::of_value(var, value));
+                return Some(Literal::of(var));
             }
         }
         None

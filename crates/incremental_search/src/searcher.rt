@@ -1,13 +1,13 @@
 //! The interface of the search: a caller begins a query, and lets the searcher continue for some conflicts at a time.
 
 use crate::engine::Engine;
-use crate::grid::Grid;
-use crate::policy::{PATIENT, USUAL};
+use crate::policy::Purpose;
 use crate::query::QueryProgress;
 use crate::shortening::Shortening;
-use crate::suggestion::{Disproof, LogLength, Suggestion};
+use crate::suggestion::{Disproof, Suggestion};
 use pack_defs::book::Book;
 use pack_defs::channel_map::ChannelMap;
+use search_base::grid::Grid;
 use std::alloc::{AllocError as NoMemory, Global};
 
 /// How far the searcher came with a query.
@@ -32,27 +32,22 @@ pub struct Searcher {
     shortening: Option<Shortening>,
     group: Option<Engine>,
     seed: u64,
-    logs: LogLength,
-    // The effort of each policy for each tested station, in conflicts, and the conflicts left to the current policy; whether that is
-    // the last policy.
+    // The effort for each tested station, in conflicts, and what is left of it for this one.
     effort: u32,
     left: u32,
-    is_patient: bool,
 }
 
 impl Searcher {
     /// Returns a searcher that knows nothing. The seed breaks ties in the order of decisions, so searchers with different seeds search
     /// differently; seed 0 breaks ties by the variables' order.
-    pub fn new(seed: u64, logs: LogLength) -> Searcher {
+    pub fn new(seed: u64) -> Searcher {
         Searcher {
             engine: None,
             shortening: None,
             group: None,
             seed,
-            logs,
             effort: 0,
             left: 0,
-            is_patient: false,
         }
     }
 
@@ -66,9 +61,8 @@ impl Searcher {
     /// Begins a query: is there a map of exactly the stations of this ascending set that violates no pair of the book?
     ///
     /// The stations of the set that have no channel in the last map are tested. `from`, if given, is the change of a known fit of the
-    /// tested station, from which the search begins. For each tested station the search has `effort` conflicts, and as many again by
-    /// another policy. If it finds a log of more than `effort` lines, or a long one if short logs are wanted, it looks for a shorter
-    /// one.
+    /// tested station, from which the search begins. For each tested station the search has `effort` conflicts, and a local search
+    /// helps. If it finds a log of more than `effort` lines, it looks for a shorter one.
     ///
     /// # Errors
     /// Fails only if memory runs out. Then no query is begun, and the searcher can be used again.
@@ -83,11 +77,10 @@ impl Searcher {
     ) -> Result<(), NoMemory> {
         self.stop_shortening();
         let mut engine = self.take_engine(alloc, book)?;
-        engine.begin_query(set, last, from)?;
+        engine.begin_query(alloc, set, last, from)?;
         self.engine = Some(engine);
         self.effort = effort;
         self.left = effort;
-        self.is_patient = false;
         Ok(())
     }
 
@@ -122,7 +115,7 @@ impl Searcher {
     ) -> Result<Progress, NoMemory> {
         let conflicts = conflicts.min(self.left);
         match engine.search(alloc, conflicts)? {
-            QueryProgress::Open => self.continue_open(engine, conflicts),
+            QueryProgress::Open => Ok(self.continue_open(engine, conflicts)),
             QueryProgress::Next => Ok(self.begin_next(engine)),
             QueryProgress::Fits => self.suggest_fit(alloc, engine, set, last),
             QueryProgress::Refuted { line } => self.suggest_unfit(alloc, engine, line),
@@ -130,25 +123,19 @@ impl Searcher {
         }
     }
 
-    // Keeps the search after this many conflicts, and switches to the next policy if the effort is spent.
-    fn continue_open(&mut self, mut engine: Engine, conflicts: u32) -> Result<Progress, NoMemory> {
+    // Keeps the search after this many conflicts, which may have spent the effort.
+    fn continue_open(&mut self, engine: Engine, conflicts: u32) -> Progress {
         self.left = self.left.saturating_sub(conflicts);
-        if self.left == 0 && !self.is_patient {
-            self.is_patient = true;
-            self.left = self.effort;
-            engine.restart_with_policy(PATIENT)?;
-        }
         self.engine = Some(engine);
         if self.left == 0 {
-            return Ok(Progress::Spent);
+            return Progress::Spent;
         }
-        Ok(Progress::Open)
+        Progress::Open
     }
 
-    // Gives the next tested station the complete effort, by the first policy.
+    // Gives the next tested station the complete effort.
     fn begin_next(&mut self, engine: Engine) -> Progress {
         self.left = self.effort;
-        self.is_patient = false;
         self.engine = Some(engine);
         Progress::Open
     }
@@ -168,7 +155,7 @@ impl Searcher {
         Ok(Progress::Ended(Suggestion::Fit(fit)))
     }
 
-    // Suggests the disproof that ends with this line, unless a search for a shorter one is worthwhile.
+    // Suggests the disproof that ends with this line. If it has more lines than the effort, a search for a shorter one begins.
     fn suggest_unfit(
         &mut self,
         alloc: Global,
@@ -176,8 +163,7 @@ impl Searcher {
         line: u32,
     ) -> Result<Progress, NoMemory> {
         engine.gather(alloc, line)?;
-        let lines = engine.cone.lines.len();
-        if Shortening::is_worth(lines, self.effort, self.logs) {
+        if engine.cone.lines.len() > self.effort as usize {
             self.begin_shortening(alloc, engine)
         } else {
             self.suggest_gathered(alloc, engine)
@@ -256,8 +242,6 @@ impl Searcher {
             }
         }
         self.group = None;
-        let mut engine = Engine::new(alloc, Grid::of(alloc, book)?, USUAL)?;
-        engine.break_ties_by_chance(self.seed);
-        Ok(engine)
+        Engine::new(alloc, Grid::of(alloc, book)?, Purpose::Answers, self.seed)
     }
 }

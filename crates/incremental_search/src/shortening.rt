@@ -1,17 +1,16 @@
-//! The search for a shorter log.
+//! The search for a shorter log, for a refutation whose log is longer than a worker may write.
 //!
-//! What a kept engine learnt passes through other queries, so over the stations of a disproof alone a log with half as many lines often
-//! exists. The next disproof concerns mostly the same stations and needs mostly the same lines. So what is learnt here is kept too, as
-//! long as the disproofs are about the same crowd of stations.
+//! What a kept engine learnt passes through other queries, so over the stations of a disproof alone a shorter log often exists. The next
+//! disproof concerns mostly the same stations and needs mostly the same lines. So what is learnt here is kept too, as long as the
+//! disproofs are about the same crowd of stations.
 
 use crate::engine::Engine;
-use crate::grid::Grid;
 use crate::policy::{
-    CONFLICTS_OF_SHARE, GROUP_STATIONS_TO_ONE_NEW, LINES_OF_LONG_LOG, LINES_OF_SHARE,
-    LINES_OF_SHORT_LOG, SHORTENING,
+    BUDGETS_OF_SHORTER_LOG, GROUP_STATIONS_TO_ONE_NEW, Purpose, SEARCHES_FROM_NOTHING,
 };
 use crate::query::QueryProgress;
-use crate::suggestion::{Disproof, LogLength};
+use crate::suggestion::Disproof;
+use search_base::grid::Grid;
 use std::alloc::{AllocError as NoMemory, Global};
 
 /// A search for a disproof of a tested station with fewer lines than the known one.
@@ -25,25 +24,15 @@ pub(crate) struct Shortening {
     // An engine that knows only a crowd of stations, which includes these.
     engine: Engine,
     // The number of lines that a worker may write.
-    budget: usize,
-    // The number of conflicts left to the search by the policy of this index.
-    left: usize,
-    policy: usize,
+    budget: u32,
+    // The conflicts left to this search, and the searches from nothing left after it.
+    left: u32,
+    searches: u32,
 }
 
 impl Shortening {
-    /// Checks whether a disproof of this many lines is worth a search for a shorter one. `budget` is the number of lines that a
-    /// worker may write.
-    pub(crate) fn is_worth(lines: usize, budget: u32, logs: LogLength) -> bool {
-        let most = budget as usize;
-        match logs {
-            LogLength::Short => lines > LINES_OF_SHORT_LOG.min(most),
-            LogLength::Any => lines > most,
-        }
-    }
-
-    /// Begins the search, by the first policy, for a shorter disproof than the one that `known` gathered. The crowd's engine is used if
-    /// it knows most of the disproof's stations.
+    /// Begins the search for a shorter disproof than the one that `known` gathered. The crowd's engine is used if it knows most of the
+    /// disproof's stations. `budget` is the number of lines that a worker may write.
     pub(crate) fn begin(
         alloc: Global,
         known: &Engine,
@@ -54,8 +43,7 @@ impl Shortening {
         let lines = known.cone.lines.len();
         let tested = known.grid.station_at(known.tested);
         let mut engine = engine_for(alloc, &known.grid, group, &stations, tested)?;
-        engine.begin_one_test(&stations, tested, SHORTENING[0])?;
-        let budget = budget as usize;
+        engine.begin_one_test(alloc, &stations, tested)?;
         Ok(Shortening {
             stations,
             lines,
@@ -63,8 +51,8 @@ impl Shortening {
             tested,
             engine,
             budget,
-            left: conflicts_for(lines, budget),
-            policy: 0,
+            left: budget.saturating_mul(BUDGETS_OF_SHORTER_LOG),
+            searches: SEARCHES_FROM_NOTHING,
         })
     }
 
@@ -76,15 +64,15 @@ impl Shortening {
     ) -> Result<bool, NoMemory> {
         match self.engine.search(alloc, conflicts)? {
             QueryProgress::Open => {
-                self.left = self.left.saturating_sub(conflicts as usize);
-                if self.left > 0 {
-                    return Ok(false);
-                }
+                self.left = self.left.saturating_sub(conflicts);
+                Ok(self.left == 0)
             }
-            QueryProgress::Refuted { line } => self.take(alloc, line)?,
-            QueryProgress::Next | QueryProgress::Fits | QueryProgress::Lost => {}
+            QueryProgress::Refuted { line } => {
+                self.take(alloc, line)?;
+                self.is_over(alloc)
+            }
+            QueryProgress::Next | QueryProgress::Fits | QueryProgress::Lost => Ok(true),
         }
-        self.is_over(alloc)
     }
 
     /// Returns the shortest disproof, if a shorter one than the known one was found, and the engine that knows its crowd.
@@ -104,30 +92,19 @@ impl Shortening {
         Ok(())
     }
 
-    // Returns true if no policy is left or the shortest disproof is short enough. Otherwise begins a search from scratch by the
-    // next policy.
+    // Returns true if the shortest disproof is short enough or no search from nothing is left. Otherwise begins one, with a seed of its
+    // own, so that it is not the search before.
     fn is_over(&mut self, alloc: Global) -> Result<bool, NoMemory> {
-        self.policy = self.policy.saturating_add(1);
-        let short = LINES_OF_LONG_LOG.min(self.budget);
-        if self.policy >= SHORTENING.len() || self.lines <= short {
+        if self.searches == 0 || self.lines <= self.budget as usize {
             return Ok(true);
         }
-        let policy = SHORTENING[self.policy];
-        self.engine = Engine::new(alloc, self.engine.grid.copy(alloc)?, policy)?;
+        self.searches = self.searches.saturating_sub(1);
+        self.left = self.budget.saturating_mul(BUDGETS_OF_SHORTER_LOG);
+        let seed = self.searches as u64 + 1;
+        self.engine = crowd_engine(alloc, self.engine.grid.copy(alloc)?, seed)?;
         self.engine
-            .begin_one_test(&self.stations, self.tested, policy)?;
-        self.left = conflicts_for(self.lines, self.budget);
+            .begin_one_test(alloc, &self.stations, self.tested)?;
         Ok(false)
-    }
-}
-
-// Returns the number of conflicts for the search of a log shorter than one of this many lines. If a worker may not write the known log,
-// the search may have as many conflicts as a shorter log can have.
-fn conflicts_for(lines: usize, budget: usize) -> usize {
-    if lines > budget {
-        lines
-    } else {
-        lines / LINES_OF_SHARE * CONFLICTS_OF_SHARE
     }
 }
 
@@ -140,10 +117,14 @@ fn engine_for(
     tested: u32,
 ) -> Result<Engine, NoMemory> {
     let Some(engine) = group else {
-        return Engine::new(alloc, grid.copy(alloc)?, SHORTENING[0]);
+        return crowd_engine(alloc, grid.copy(alloc)?, 0);
     };
     if engine.is_mostly_on_air(stations, tested, GROUP_STATIONS_TO_ONE_NEW) {
         return Ok(engine);
     }
-    Engine::new(alloc, engine.grid, SHORTENING[0])
+    crowd_engine(alloc, engine.grid, 0)
+}
+
+fn crowd_engine(alloc: Global, grid: Grid, seed: u64) -> Result<Engine, NoMemory> {
+    Engine::new(alloc, grid, Purpose::ShorterLog, seed)
 }

@@ -5,15 +5,6 @@ use pack_defs::channel_map::ChannelMap;
 use rup_check::line::Log;
 use std::alloc::{AllocError as NoMemory, Global};
 
-/// Which logs the searcher looks for.
-#[derive(Clone, Copy, Debug, PartialEq, Eq)]
-pub enum LogLength {
-    /// Short logs: for a long log, the search looks for a shorter one. For logs that are written, read and checked again.
-    Short,
-    /// Any log within the budget: the search looks for a shorter one only if a log exceeds the budget.
-    Any,
-}
-
 /// An answer to a query, which is still to be checked.
 #[derive(Debug, Drop)]
 pub enum Suggestion {

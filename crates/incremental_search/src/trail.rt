@@ -1,8 +1,8 @@
 //! The trail: which literals are true, since when, and why.
 
-use crate::checked_access::{filled, read, saturating_u32, write};
 use crate::hint::Reason;
 use crate::literal::Literal;
+use search_base::checked_access::{filled, read, saturating_u32, write};
 use std::alloc::{AllocError as NoMemory, Global};
 
 /// The value of a literal.

@@ -201,7 +201,7 @@ fn cached_racers<'a, W: Wait>(
 {
     let mut racers = Vec::new(alloc);
     for worker in workers {
-        let racer = RacerKind::with_long_proofs(alloc, worker)?;
+        let racer = RacerKind::for_worker(alloc, worker)?;
         racers.push(Cached::make(rt, alloc, top, cache, worker, racer))?;
     }
     Ok(racers)

@@ -1,11 +1,11 @@
-//! A searcher that runs out of memory is empty and can be used again. For a long log it searches for a shorter one.
+//! A searcher that runs out of memory is empty and can be used again. If a log is too long, it searches for a shorter one.
 
 use crate::solvers::learners::samples::packing;
 use incremental_search::searcher::{Progress, Searcher};
-use incremental_search::suggestion::LogLength;
 use incremental_search::suggestion::Suggestion;
 use pack_defs::book::Book;
 use pack_defs::channel_map::ChannelMap;
+use search_base::checked_access::saturating_u32;
 use std::alloc::{AllocError as NoMemory, Global};
 use std::test::Fail;
 
@@ -44,7 +44,7 @@ fn asked(
     effort: u32,
 ) -> Result<Told, NoMemory> {
     searcher.begin(alloc, book, set, none, None, effort)?;
-    for _ in 0..1000 {
+    for _ in 0..10_000 {
         match searcher.continue_search(alloc, set, none, 16)? {
             Progress::Open => {}
             Progress::Ended(suggestion) => return Ok(suggestion_kind(&suggestion)),
@@ -94,15 +94,16 @@ fn a_searcher_without_memory_can_be_used_again(rt: HostRuntime) -> Result<(), Fa
     let alloc = rt.alloc();
     let book = six_on_five(alloc).ok_or("no memory")?;
     let none = ChannelMap::of(alloc, &[])?;
-    let mut searcher = Searcher::new(0, LogLength::Short);
+    let mut searcher = Searcher::new(0);
     let five = asked_again(alloc, &mut searcher, &book, &STATIONS[..5], &none, 1000)?;
     assert_eq!(rt; five, Told::Fit);
-    let six = asked_again(alloc, &mut searcher, &book, &STATIONS, &none, 1000)?;
+    let six = asked_again(alloc, &mut searcher, &book, &STATIONS, &none, 100_000)?;
     let long = six.lines().ok_or("not refuted")?;
+    let less = saturating_u32(long).saturating_sub(1);
     // The searcher searches again for a shorter log if the first has more lines than a worker may report.
-    let again = asked_again(alloc, &mut searcher, &book, &STATIONS, &none, 100)?;
+    let again = asked_again(alloc, &mut searcher, &book, &STATIONS, &none, less)?;
     let short = again.lines().ok_or("not refuted by less effort")?;
-    assert!(rt; long > 100 && short < long, "{short} of {long}");
+    assert!(rt; short < long, "{short} of {long}");
     // Until `forget`, the searcher keeps station 0 on air.
     searcher.forget();
     assert!(rt; is_empty(alloc, &mut searcher, &none));

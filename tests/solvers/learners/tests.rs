@@ -140,17 +140,17 @@ fn of_six(alloc: Global, budget: u32, seed: u64, stands: u32) -> Option<Said> {
 }
 
 // The incremental searcher tests one station after another, and the first five fit at once. At the sixth station it spends the
-// budget with one policy and then with another. Then it learns as many lines for a receipt.
+// budget. Then it learns as many lines for a receipt.
 #[test]
 fn the_poll_is_asked_before_the_first_conflict_and_then_after_each_16(
     rt: HostRuntime,
 ) -> Result<(), Fail> {
     let said = [
         (0, 1, Said::Moved(6)),
-        (7, 16, Said::Moved(6)),
-        (8, 16, Said::Spent(16)),
-        (10, 17, Said::Moved(6)),
-        (11, 17, Said::Spent(17)),
+        (6, 16, Said::Moved(6)),
+        (7, 16, Said::Spent(16)),
+        (8, 17, Said::Moved(6)),
+        (9, 17, Said::Spent(17)),
     ];
     for (stands, budget, said) in said {
         let of_six = of_six(rt.alloc(), budget, 0, stands);

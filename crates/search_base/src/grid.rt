@@ -9,7 +9,7 @@ use std::ops::Range;
 
 /// The places of stations and the variables, both from 0 and in the order of the book. The rivals are listed once, in one flat list.
 #[derive(Drop)]
-pub(crate) struct Grid {
+pub struct Grid {
     // For each place the facility number of its station.
     stations: Vec<u32>,
     // For each place the first variable of its station; then the number of variables.
@@ -33,7 +33,7 @@ struct VariablePair {
 
 impl Grid {
     /// Numbers the stations, channels and pairs of a book.
-    pub(crate) fn of(alloc: Global, book: &Book) -> Result<Grid, NoMemory> {
+    pub fn of(alloc: Global, book: &Book) -> Result<Grid, NoMemory> {
         let mut grid = Grid::empty(alloc, book.top(), book.pairs().len());
         for place in 0..book.len() {
             grid.add_station(place, book)?;
@@ -46,7 +46,7 @@ impl Grid {
     }
 
     /// Copies the numbers.
-    pub(crate) fn copy(&self, alloc: Global) -> Result<Grid, NoMemory> {
+    pub fn copy(&self, alloc: Global) -> Result<Grid, NoMemory> {
         Ok(Grid {
             stations: Vec::from_slice(alloc, &self.stations)?,
             firsts: Vec::from_slice(alloc, &self.firsts)?,
@@ -74,29 +74,29 @@ impl Grid {
 
     /// Checks whether these may be the numbers of the book, that is, whether the numbers of stations, top channels and numbers of pairs
     /// agree. For another book of the same size, suggestions are worthless.
-    pub(crate) fn may_be_of(&self, book: &Book) -> bool {
+    pub fn may_be_of(&self, book: &Book) -> bool {
         self.stations.len() == book.len() as usize
             && self.top == book.top()
             && self.pairs == book.pairs().len()
     }
 
     /// Returns the number of stations.
-    pub(crate) fn stations(&self) -> u32 {
+    pub fn stations(&self) -> u32 {
         saturating_u32(self.stations.len())
     }
 
     /// Returns the number of variables.
-    pub(crate) fn vars(&self) -> u32 {
+    pub fn vars(&self) -> u32 {
         saturating_u32(self.owners.len())
     }
 
     /// Returns the facility number of the station at a place.
-    pub(crate) fn station_at(&self, place: u32) -> u32 {
+    pub fn station_at(&self, place: u32) -> u32 {
         read(&self.stations, place, 0)
     }
 
     /// Returns the place of a station, if the book has the station.
-    pub(crate) fn place_of(&self, station: u32) -> Option<u32> {
+    pub fn place_of(&self, station: u32) -> Option<u32> {
         match self.stations.binary_search(&station) {
             Ok(place) => Some(saturating_u32(place)),
             Err(_) => None,
@@ -104,23 +104,23 @@ impl Grid {
     }
 
     /// Returns the variables of the station at a place.
-    pub(crate) fn vars_of(&self, place: u32) -> Range<u32> {
+    pub fn vars_of(&self, place: u32) -> Range<u32> {
         let end = read(&self.firsts, place.saturating_add(1), 0);
         read(&self.firsts, place, end)..end
     }
 
     /// Returns the place of a variable's station.
-    pub(crate) fn owner(&self, var: u32) -> u32 {
+    pub fn owner(&self, var: u32) -> u32 {
         read(&self.owners, var, u32::MAX)
     }
 
     /// Returns the channel of a variable.
-    pub(crate) fn channel(&self, var: u32) -> u8 {
+    pub fn channel(&self, var: u32) -> u8 {
         read(&self.channels, var, 0)
     }
 
     /// Returns the variable of a channel of the station at a place, if the station may use the channel.
-    pub(crate) fn var_of(&self, place: u32, channel: u8) -> Option<u32> {
+    pub fn var_of(&self, place: u32, channel: u8) -> Option<u32> {
         let vars = self.vars_of(place);
         match slice_between(&self.channels, vars.start, vars.end).binary_search(&channel) {
             Ok(place) => Some(vars.start.saturating_add(saturating_u32(place))),
@@ -129,18 +129,18 @@ impl Grid {
     }
 
     /// Returns the places, for `rival`, of the variables that interfere with this one, ascending.
-    pub(crate) fn rivals_of(&self, var: u32) -> Range<u32> {
+    pub fn rivals_of(&self, var: u32) -> Range<u32> {
         let end = read(&self.begins, var.saturating_add(1), 0);
         read(&self.begins, var, end)..end
     }
 
     /// Returns the variable at a place of the rivals.
-    pub(crate) fn rival(&self, place: u32) -> u32 {
+    pub fn rival(&self, place: u32) -> u32 {
         read(&self.rivals, place, 0)
     }
 
     /// Returns the variables that interfere with this one, ascending.
-    pub(crate) fn rival_list(&self, var: u32) -> &[u32] {
+    pub fn rival_list(&self, var: u32) -> &[u32] {
         let places = self.rivals_of(var);
         slice_between(&self.rivals, places.start, places.end)
     }

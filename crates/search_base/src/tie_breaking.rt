@@ -1,8 +1,11 @@
 //! Tie-breaking between variables of equal activity.
 
-use crate::policy::CHANCE_BELOW;
 use rand_core::utils::NextWord;
 use rand_pcg::Lcg64Xsh32;
+
+// The random initial activity of a variable is below this many steps. A preference or a conflict counts for 1.0 or more on the same
+// scale, so chance decides ties and hardly anything else. Chosen without a measurement.
+const CHANCE_BELOW: f64 = 0.001;
 
 // The number of words from which chance draws.
 const WORD_COUNT: f64 = 4_294_967_296.0;
