@@ -40,14 +40,12 @@ fn is_line(
     hints: &[Hint],
     held: bool,
 ) -> Result<bool, NoMemory> {
-    let (mut literals, mut found) = (Vec::new(alloc), Vec::new(alloc));
-    lines.literals(number, &mut literals)?;
+    let mut found = Vec::new(alloc);
     lines.hints(number, &mut found)?;
     if held {
-        let literal = Literal { code: number };
-        return Ok(literals.as_slice() == [literal].as_slice() && found.as_slice() == hints);
+        return Ok(lines.codes(number) == [number].as_slice() && found.as_slice() == hints);
     }
-    Ok(literals.is_empty() && found.is_empty())
+    Ok(lines.codes(number).is_empty() && found.is_empty())
 }
 
 #[test]

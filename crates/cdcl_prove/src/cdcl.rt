@@ -1,16 +1,15 @@
 //! The solver of a worker that learns, as its callers see it.
 
-ghost use Rattle.std.specs.Prelude.{ℕ, ◌≡◌, IfOk, IfSome, IsTrue, length, true};
+ghost use Rattle.std.specs.Prelude.{ℕ, ◌≡◌, IfOk, IsTrue, length, true};
 ghost use Rattle.pack_defs.specs.Lists.{is_ascending};
 ghost use Rattle.pack_defs.specs.declared.worker.Worker.{Worker};
 ghost use Rattle.cert_types.specs.Query.{AttemptIs, IsQuery};
-ghost use Rattle.cert_types.specs.Refutes.{is_subset};
 ghost use Rattle.pack_defs.specs.Scenario.{learns};
 ghost use Rattle.cdcl_prove.specs.Formulas.{IsFormulaOf};
 ghost use Rattle.cdcl_prove.specs.Search.{IsModel, SearchEndIs};
 
 use crate::answers::{fit, receipt, refutation};
-use crate::checked_suggestion::{SearcherAnswer, ask_searcher};
+use crate::checked_suggestion::ask_searcher;
 use crate::derivation::Derivation;
 use crate::guide::DecisionGuide;
 use crate::policy::{STEPS_OF_LAST_CHANNEL, STEPS_WITHOUT_CHANNEL};
@@ -46,6 +45,8 @@ pub struct SearchCounts {
     pub fits: u64,
     /// Queries that the incremental search refuted.
     pub refuted: u64,
+    /// Queries for which the incremental search spent its budget and made a receipt.
+    pub spent: u64,
     /// Queries that the incremental search did not answer, or whose answer was rejected, so that a new search began.
     pub left: u64,
 }
@@ -76,6 +77,7 @@ impl Cdcl {
             searched: SearchCounts {
                 fits: 0,
                 refuted: 0,
+                spent: 0,
                 left: 0,
             },
         })
@@ -96,7 +98,7 @@ impl Cdcl {
     ///
     /// - a fit: the channels to write over the last map;
     /// - a proof that the set does not fit, with at most the worker's budget of lines;
-    /// - a receipt of as many learnt lines as the budget.
+    /// - a receipt of as many learnt lines as the budget, over the complete set.
     ///
     /// If the poll reports that another query is current, the attempt stops.
     ///
@@ -105,11 +107,11 @@ impl Cdcl {
     ///
     /// The incremental searcher comes next, with the clauses that it has learnt from earlier queries and a local search beside it. It
     /// has up to `budget` conflicts for each station without a channel. If its proof exceeds the budget, it searches for a shorter
-    /// one. Its suggestion is checked before it becomes an answer.
+    /// one. If it spends its conflicts, or finds no proof that is short enough, it makes a receipt of the lines that it has learnt.
+    /// Its suggestion is checked before it becomes an answer.
     ///
-    /// Otherwise a new search begins, with the whole budget. If the searcher claims that some stations do not fit, the search is
-    /// over these first. Then it is over the complete set. A receipt is always of the complete set. The poll is called before the
-    /// first line of each search and then at intervals (`LINES_BETWEEN_POLLS` of `policy`).
+    /// If it suggests nothing, or its suggestion is rejected, a new search over the complete set begins, with the whole budget. The
+    /// poll is called before the first line of each search and then at intervals (`LINES_BETWEEN_POLLS` of `policy`).
     ///
     /// The seed decides which of two equally active variables comes first. With seed 0 their places in a heap decide, which begins
     /// in the order of the variables. Any other seed gives each variable a random initial activity, below what a preference or a
@@ -139,8 +141,7 @@ impl Cdcl {
         Ok(attempt)
     }
 
-    // Tries to answer a query by search: by the incremental searcher, then over the stations that it named, and then over the
-    // complete set.
+    // Tries to answer a query by search: by the incremental searcher, and then by a new search over the complete set.
     fn search<P: Poll>(
         &mut self,
         alloc: Global,
@@ -165,39 +166,23 @@ impl Cdcl {
         )?;
         self.searched = with_search_counted(self.searched, &asked);
         match asked {
-            SearcherAnswer::Answered(attempt) => return Ok(attempt),
-            SearcherAnswer::Open => {}
-            SearcherAnswer::SubsetUnfit(part) => {
-                if let Some(attempt) = attempt_subset(
-                    alloc,
-                    book,
-                    task,
-                    &part,
-                    self.worker,
-                    poll,
-                )? {
-                    return Ok(attempt);
-                }
-            }
+            Some(attempt) => Ok(attempt),
+            None => attempt_set(alloc, book, task, self.worker, poll),
         }
-        attempt_set(alloc, book, task, self.worker, poll)
     }
 }
 
 // Returns the counts after one more call of the incremental searcher.
-fn with_search_counted(searched: SearchCounts, asked: &SearcherAnswer) -> SearchCounts {
+fn with_search_counted(searched: SearchCounts, asked: &Option<Attempt>) -> SearchCounts {
     let mut searched = searched;
     match asked {
-        SearcherAnswer::Answered(Attempt::Said(Answer::Fit(_))) => {
-            searched.fits = searched.fits.saturating_add(1);
+        Some(Attempt::Said(Answer::Fit(_))) => searched.fits = searched.fits.saturating_add(1),
+        Some(Attempt::Said(Answer::Refuted(_))) => {
+            searched.refuted = searched.refuted.saturating_add(1);
         }
-        SearcherAnswer::Answered(Attempt::Said(_)) => searched.refuted = searched
-            .refuted
-            .saturating_add(1),
-        SearcherAnswer::Answered(Attempt::Moved { now: _ }) => {}
-        SearcherAnswer::SubsetUnfit(_) | SearcherAnswer::Open => searched.left = searched
-            .left
-            .saturating_add(1),
+        Some(Attempt::Said(Answer::Spent(_))) => searched.spent = searched.spent.saturating_add(1),
+        Some(Attempt::Moved { now: _ }) => {}
+        None => searched.left = searched.left.saturating_add(1),
     }
     searched
 }
@@ -205,31 +190,6 @@ fn with_search_counted(searched: SearchCounts, asked: &SearcherAnswer) -> Search
 // Returns what the tested station's last fit changed.
 fn last_fit_changes(quick_fits: &QuickFits, station: Option<u32>) -> Option<&ChannelMap> {
     quick_fits.kept(station?)
-}
-
-// Tries to refute a part of the set. `None` if the search found a model or spent its budget, which decides nothing of the set.
-fn attempt_subset<P: Poll>(
-    alloc: Global,
-    book: &Book,
-    task: &Task,
-    part: &[u32],
-    worker: Worker,
-    poll: &mut P,
-) -> Result<Option<Attempt>, NoMemory>
-    requires subset { is_subset part.now task.now.set ≡ true }
-    requires learner { learns worker.kind ≡ true }
-    ensures said { IfOk result (λ r. IfSome r (λ attempt. AttemptIs book.now task.now worker (P.last poll.new) attempt)) }
-    ensures goes { P.goes poll.old poll.new }
-{
-    let (derivation, outcome) = search_set(alloc, book, task, part, worker, poll)?;
-    match outcome {
-        SearchEnd::Model | SearchEnd::Spent => Ok(None),
-        SearchEnd::Refuted(last) => {
-            let answer = refutation(alloc, part, derivation, last)?;
-            Ok(Some(Attempt::Said(answer)))
-        }
-        SearchEnd::Moved { now } => Ok(Some(Attempt::Moved { now })),
-    }
 }
 
 // Tries the complete set.

@@ -1,18 +1,12 @@
 //! The incremental searcher's part in an attempt: its suggestions are checked before they become answers.
 
-ghost use Rattle.std.specs.Prelude.{ℕ, IfOk, IsTrue};
-ghost use Rattle.pack_defs.specs.Book.{BookView};
-ghost use Rattle.pack_defs.specs.Lists.{is_ascending};
-ghost use Rattle.pack_defs.specs.declared.worker.Worker.{Worker};
-ghost use Rattle.cert_types.specs.Query.{IsQuery};
-ghost use Rattle.cert_types.specs.Refutes.{is_subset};
-ghost use Rattle.cdcl_prove.specs.CheckedSuggestion.{SearcherAnswerIs};
+ghost use Rattle.std.specs.Prelude.{ℕ, IfOk, IfSome};
+ghost use Rattle.cert_types.specs.Query.{AttemptIs, IsQuery};
 
 use crate::policy::LINES_BETWEEN_POLLS;
-use cert_types::answer::{Answer, CertifyFault, CertifyWhy, Place, Refutation};
+use cert_types::answer::{Answer, CertifyWhy, Receipt, Refutation};
 use cert_types::certify::certify_query;
 use cert_types::poll::{Attempt, Poll, poll_moved};
-use cert_types::subset::is_subset;
 use cert_types::task::Task;
 use incremental_search::searcher::{Progress, Searcher};
 use incremental_search::suggestion::Suggestion;
@@ -22,19 +16,9 @@ use pack_defs::items::Items;
 use pack_defs::worker::Worker;
 use std::alloc::{AllocError as NoMemory, Global};
 
-/// The outcome of asking the incremental searcher.
-#[derive(Debug, Drop)]
-pub(crate) enum SearcherAnswer {
-    /// An accepted answer, or the report that another query is current.
-    Answered(Attempt),
-    /// Stations of the set that the searcher claims not to fit, with a log that is invalid or longer than the worker's budget.
-    SubsetUnfit(Vec<u32>),
-    /// No answer.
-    Open,
-}
-
-/// Asks the incremental searcher and checks what it suggests. The searcher may use as many conflicts for each tested station as the
-/// worker's budget has lines. Fails only if memory runs out.
+/// Asks the incremental searcher and checks what it suggests. Returns an accepted answer, or the report that another query is current.
+/// `None` if the searcher suggests nothing, or its suggestion was rejected. The searcher may use as many conflicts for each tested
+/// station as the worker's budget has lines. Fails only if memory runs out.
 pub(crate) fn ask_searcher<P: Poll>(
     alloc: Global,
     book: &Book,
@@ -43,16 +27,16 @@ pub(crate) fn ask_searcher<P: Poll>(
     from: Option<&ChannelMap>,
     searcher: &mut Searcher,
     poll: &mut P,
-) -> Result<SearcherAnswer, NoMemory>
+) -> Result<Option<Attempt>, NoMemory>
     requires { IsQuery book.now task.now }
-    ensures asked { IfOk result (λ asked. SearcherAnswerIs book.now task.now worker (P.last poll.new) asked) }
+    ensures said { IfOk result (λ r. IfSome r (λ attempt. AttemptIs book.now task.now worker (P.last poll.new) attempt)) }
     ensures goes { P.goes poll.old poll.new }
 {
     let set = task.set.as_slice();
     searcher.begin(alloc, book, set, &task.last, from, worker.budget)?;
     for _ in 0..u64::MAX {
         if let Some(now) = poll_moved(poll, task.number) {
-            return Ok(SearcherAnswer::Answered(Attempt::Moved { now }));
+            return Ok(Some(Attempt::Moved { now }));
         }
         match searcher.continue_search(alloc, set, &task.last, LINES_BETWEEN_POLLS)? {
             Progress::Open => {}
@@ -62,10 +46,10 @@ pub(crate) fn ask_searcher<P: Poll>(
             Progress::Spent | Progress::Lost => break,
         }
     }
-    Ok(SearcherAnswer::Open)
+    Ok(None)
 }
 
-// Checks a suggestion. If it is invalid for another reason than its length, the searcher forgets all that it has learnt.
+// Checks a suggestion. If it is invalid, the searcher forgets all that it has learnt.
 fn check_suggestion(
     alloc: Global,
     book: &Book,
@@ -73,21 +57,19 @@ fn check_suggestion(
     worker: Worker,
     suggestion: Suggestion,
     searcher: &mut Searcher,
-) -> Result<SearcherAnswer, NoMemory>
+) -> Result<Option<Attempt>, NoMemory>
     requires { IsQuery book.now task.now }
-    ensures { IfOk result (λ asked. (last : ℕ) → SearcherAnswerIs book.now task.now worker last asked) }
+    ensures { IfOk result (λ r. IfSome r (λ attempt. (last : ℕ) → AttemptIs book.now task.now worker last attempt)) }
 {
     let answer = answer_of(suggestion);
     match certify_query(alloc, book, task, &worker, answer) {
-        Ok(certified) => Ok(SearcherAnswer::Answered(Attempt::Said(certified.into_answer()))),
+        Ok(certified) => Ok(Some(Attempt::Said(certified.into_answer()))),
         Err(fault) => {
             if fault.why == CertifyWhy::NoMemory {
                 return Err(NoMemory);
             }
-            if fault.why != CertifyWhy::Rejected(Place::Count) {
-                searcher.forget();
-            }
-            unfit_subset(alloc, task, fault)
+            searcher.forget();
+            Ok(None)
         }
     }
 }
@@ -100,19 +82,6 @@ fn answer_of(suggestion: Suggestion) -> Answer {
             subset: Items::from_vec(disproof.stations),
             log: disproof.log,
         }),
+        Suggestion::Spent(log) => Answer::Spent(Receipt::Lines(log)),
     }
-}
-
-// Returns the stations that a rejected answer claims not to fit, if they are of the set.
-fn unfit_subset(alloc: Global, task: &Task, fault: CertifyFault) -> Result<SearcherAnswer, NoMemory>
-    requires { IsTrue (is_ascending task.now.set) }
-    ensures { IfOk result (λ asked. (book : BookView) (worker : Worker) (last : ℕ) → SearcherAnswerIs book task.now worker last asked) }
-{
-    if let Answer::Refuted(Refutation::Proof { subset, log: _ }) = &fault.answer {
-        if is_subset(subset.as_slice(), task.set.as_slice()) {
-            let part = Vec::from_slice(alloc, subset.as_slice())?;
-            return Ok(SearcherAnswer::SubsetUnfit(part));
-        }
-    }
-    Ok(SearcherAnswer::Open)
 }

@@ -1,13 +1,14 @@
-//! The cone of a refutation: what it needs of all that was learnt, traced backwards from its last line.
+//! The cone of some lines: what they need of all that was learnt, traced backwards from them.
 
 use crate::hint::Hint;
 use crate::lines::KeptLines;
 use search_base::checked_access::{filled, read, saturating_u32, write};
 use search_base::grid::Grid;
 use std::alloc::{AllocError as NoMemory, Global};
+use std::ops::Range;
 
-/// The lines that a last line needs, ascending, with itself; and the places of the stations whose clauses or channels these lines name,
-/// ascending. The lists are reused from one refutation to the next.
+/// The lines that some lines need, ascending, with themselves; and the places of the stations whose clauses or channels these lines
+/// name, ascending. The lists are reused from one query to the next.
 #[derive(Drop)]
 pub(crate) struct Cone {
     pub(crate) lines: Vec<u32>,
@@ -31,17 +32,24 @@ impl Cone {
         read(&self.ranks, line, 0)
     }
 
-    /// Gathers what the line `last` needs, in place of what was gathered before.
+    /// Gives a needed line another rank, such as its number among those of a log; 0 if the log lacks the line.
+    pub(crate) fn set_rank(&mut self, line: u32, rank: u32) {
+        write(&mut self.ranks, line, rank);
+    }
+
+    /// Gathers what the lines of these numbers need, in place of what was gathered before.
     pub(crate) fn gather(
         &mut self,
         alloc: Global,
         lines: &KeptLines,
         grid: &Grid,
-        last: u32,
+        wanted: Range<u32>,
     ) -> Result<(), NoMemory> {
         self.clear();
         self.ranks.resize(lines.len() as usize, 0)?;
-        self.need(last)?;
+        for line in wanted {
+            self.need(line)?;
+        }
         let mut is_named = filled(alloc, grid.stations(), false)?;
         let mut hints = Vec::new(alloc);
         for at in 0..lines.len() {

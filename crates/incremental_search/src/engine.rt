@@ -49,6 +49,8 @@ pub(crate) struct Engine {
     pub(crate) set: Vec<u32>,
     pub(crate) tested: u32,
     pub(crate) waiting: Vec<u32>,
+    // The number of the first line that was learnt since the test of that station began.
+    pub(crate) first_line: u32,
 }
 
 impl Engine {
@@ -82,6 +84,7 @@ impl Engine {
             set: Vec::new(alloc),
             tested: NOBODY,
             waiting: Vec::new(alloc),
+            first_line: 0,
             grid,
         };
         engine.break_ties_by_chance(seed);
@@ -180,7 +183,14 @@ impl Engine {
 
     /// Gathers what the line of this number needs, in place of what was gathered before.
     pub(crate) fn gather(&mut self, alloc: Global, line: u32) -> Result<(), NoMemory> {
-        self.cone.gather(alloc, &self.lines, &self.grid, line)
+        let wanted = line..line.saturating_add(1);
+        self.cone.gather(alloc, &self.lines, &self.grid, wanted)
+    }
+
+    /// Gathers the lines that were learnt since the test began, and what they need, in place of what was gathered before.
+    pub(crate) fn gather_test(&mut self, alloc: Global) -> Result<(), NoMemory> {
+        let wanted = self.first_line..self.lines.len();
+        self.cone.gather(alloc, &self.lines, &self.grid, wanted)
     }
 
     /// Returns the stations that the gathered lines name, ascending.

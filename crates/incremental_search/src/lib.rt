@@ -17,6 +17,7 @@
 //! - `propagate`, `analysis`, `minimising`: unit propagation, and learning a short line from a conflict.
 //! - `shortening`: the search for a shorter log.
 //! - `cone`, `numbering`: the lines that a refutation needs, and their log over the packing formula.
+//! - `receipt`, `subclause_index`, `hint_repair`: the receipt of a search that has spent its effort.
 //! - `reduce_db`: the deletion of little used lines.
 //! - `literal`, `hint`, `trail`, `clauses`, `lines`, `marks`, `search_scope`: the data structures.
 #![tactic(auto)]
@@ -26,6 +27,7 @@ mod clauses;
 mod cone;
 mod engine;
 mod hint;
+mod hint_repair;
 mod lines;
 mod literal;
 mod marks;
@@ -35,10 +37,12 @@ mod place;
 mod policy;
 mod propagate;
 mod query;
+mod receipt;
 mod reduce_db;
 mod search_scope;
 mod search_step;
 pub mod searcher;
 mod shortening;
+mod subclause_index;
 pub mod suggestion;
 mod trail;

@@ -78,21 +78,11 @@ impl KeptLines {
         write(&mut self.facts, var, number.saturating_add(1));
     }
 
-    /// Reads the literals of a line into `literals`.
-    pub(crate) fn literals(
-        &self,
-        number: u32,
-        literals: &mut Vec<Literal>,
-    ) -> Result<(), NoMemory> {
-        literals.clear();
+    /// Returns the codes of a line's literals.
+    pub(crate) fn codes(&self, number: u32) -> &[u32] {
         let words = self.words(number);
         let count = read(words, 0, 0);
-        for i in 0..count {
-            literals.push(Literal {
-                code: read(words, i.saturating_add(1), 0),
-            })?;
-        }
-        Ok(())
+        slice_between(words, 1, count.saturating_add(1))
     }
 
     /// Reads the hints of a line into `hints`.
@@ -131,7 +121,8 @@ impl KeptLines {
                 .saturating_add(spare)
     }
 
-    /// Deletes the lines that neither a fact nor one of the `needed` lines uses, directly or through other lines.
+    /// Deletes the lines that neither a fact nor one of the `needed` lines uses, directly or through other lines. The needed lines
+    /// stay.
     pub(crate) fn sweep(&mut self, alloc: Global, needed: &mut [bool]) -> Result<(), NoMemory> {
         for number in &self.facts {
             if *number > 0 {

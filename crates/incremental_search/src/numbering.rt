@@ -1,11 +1,14 @@
 //! Turns the searcher's variables and lines into a log over the packing formula of some stations.
 //!
+//! A disproof's log has the cone of its last line. A receipt's log has only fresh lines (`receipt`).
+//!
 //! The formula's clauses are numbered: first a clause for each station, then for each station its channels two by two, then the pairs
 //! that interfere.
 
 use crate::cone::Cone;
 use crate::engine::Engine;
 use crate::hint::Hint;
+use crate::lines::KeptLines;
 use crate::literal::Literal;
 use clause_db::lit::Lit;
 use rup_check::line::Log;
@@ -16,7 +19,7 @@ use std::alloc::{AllocError as NoMemory, Global};
 
 /// The numbers of the formula's variables and clauses.
 #[derive(Drop)]
-struct Numbering {
+pub(crate) struct Numbering {
     // For each variable its number, from 1; 0 if its station is not one of these.
     vars: Vec<u32>,
     // For each place the number of its station's own clause, and the number of clauses before those of its channels two by two.
@@ -34,17 +37,18 @@ struct Numbering {
 
 /// Buffers for one line, reused from line to line.
 #[derive(Drop)]
-struct LineParts {
-    literals: Vec<Literal>,
-    hints: Vec<Hint>,
-    // The literals and hints as numbers of the formula.
+pub(crate) struct LineParts {
+    /// The literals without those of selector variables, and the hints.
+    pub(crate) literals: Vec<Literal>,
+    pub(crate) hints: Vec<Hint>,
+    // The same as numbers of the formula.
     lits: Vec<Lit>,
     numbers: Vec<u64>,
 }
 
 impl LineParts {
-    // Returns empty buffers.
-    fn none(alloc: Global) -> LineParts {
+    /// Returns empty buffers.
+    pub(crate) fn none(alloc: Global) -> LineParts {
         LineParts {
             literals: Vec::new(alloc),
             hints: Vec::new(alloc),
@@ -52,73 +56,64 @@ impl LineParts {
             numbers: Vec::new(alloc),
         }
     }
+
+    /// Reads the literals and hints of a line.
+    pub(crate) fn read(
+        &mut self,
+        lines: &KeptLines,
+        grid: &Grid,
+        line: u32,
+    ) -> Result<(), NoMemory> {
+        self.literals.clear();
+        for code in lines.codes(line) {
+            let literal = Literal { code: *code };
+            if literal.var() < grid.vars() {
+                self.literals.push(literal)?;
+            }
+        }
+        lines.hints(line, &mut self.hints)
+    }
+
+    /// Adds the line to a log. Its hints that are lines have their ranks in the cone behind the formula's clauses.
+    pub(crate) fn add_to(
+        &mut self,
+        numbering: &Numbering,
+        grid: &Grid,
+        cone: &Cone,
+        log: &mut Lines,
+    ) -> Result<(), NoMemory> {
+        self.lits.clear();
+        for literal in &self.literals {
+            self.lits.push(Lit {
+                var: read(&numbering.vars, literal.var(), 0) as u64,
+                positive: !literal.is_negated(),
+            })?;
+        }
+        self.numbers.clear();
+        for hint in &self.hints {
+            self.numbers.push(numbering.number(grid, cone, *hint))?;
+        }
+        log.push(&self.lits, &self.numbers)
+    }
 }
 
 impl Engine {
     /// Returns the log of the cone, without the literals of selector variables.
     pub(crate) fn log(&self, alloc: Global) -> Result<Log, NoMemory> {
         let numbering = Numbering::of(alloc, &self.grid, &self.cone.places)?;
+        let mut parts = LineParts::none(alloc);
         let mut lines = Lines::new(alloc);
-        self.add_lines(&numbering, &mut LineParts::none(alloc), &mut lines)?;
-        Ok(Log { lines })
-    }
-
-    // Adds each line of the cone to a log.
-    fn add_lines(
-        &self,
-        numbering: &Numbering,
-        parts: &mut LineParts,
-        lines: &mut Lines,
-    ) -> Result<(), NoMemory> {
         for line in &self.cone.lines {
-            self.number_literals(numbering, *line, parts)?;
-            self.number_hints(numbering, *line, parts)?;
-            lines.push(&parts.lits, &parts.numbers)?;
+            parts.read(&self.lines, &self.grid, *line)?;
+            parts.add_to(&numbering, &self.grid, &self.cone, &mut lines)?;
         }
-        Ok(())
-    }
-
-    // Numbers the literals of a line, without those of selector variables.
-    fn number_literals(
-        &self,
-        numbering: &Numbering,
-        line: u32,
-        parts: &mut LineParts,
-    ) -> Result<(), NoMemory> {
-        self.lines.literals(line, &mut parts.literals)?;
-        parts.lits.clear();
-        for literal in &parts.literals {
-            if self.is_channel(literal.var()) {
-                parts.lits.push(Lit {
-                    var: read(&numbering.vars, literal.var(), 0) as u64,
-                    positive: !literal.is_negated(),
-                })?;
-            }
-        }
-        Ok(())
-    }
-
-    // Numbers the hints of a line.
-    fn number_hints(
-        &self,
-        numbering: &Numbering,
-        line: u32,
-        parts: &mut LineParts,
-    ) -> Result<(), NoMemory> {
-        self.lines.hints(line, &mut parts.hints)?;
-        parts.numbers.clear();
-        for hint in &parts.hints {
-            parts
-                .numbers
-                .push(numbering.number(&self.grid, &self.cone, *hint))?;
-        }
-        Ok(())
+        Ok(Log { lines })
     }
 }
 
 impl Numbering {
-    // Numbers the packing formula of the stations at these places.
-    fn of(alloc: Global, grid: &Grid, places: &[u32]) -> Result<Numbering, NoMemory> {
+    /// Numbers the packing formula of the stations at these places, which ascend.
+    pub(crate) fn of(alloc: Global, grid: &Grid, places: &[u32]) -> Result<Numbering, NoMemory> {
         let mut numbering = Numbering::none(alloc);
         numbering.make_room(grid)?;
         numbering.number_clauses(grid, places)?;

@@ -45,6 +45,7 @@ impl Engine {
     pub(crate) fn begin(&mut self, alloc: Global, place: u32) -> Result<(), NoMemory> {
         self.backjump_to(0)?;
         self.search_scope.clear();
+        self.first_line = self.lines.len();
         self.reduce_lines(alloc)?;
         self.tested = place;
         self.from.clear();

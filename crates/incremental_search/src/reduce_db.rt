@@ -1,11 +1,14 @@
 //! Thinning: now and then some of the little used lines are dropped, and the rest are compacted.
+//!
+//! A line is dropped from the stored clauses, and later from the stored lines if no clause needs it. The lines of the current test are
+//! all kept until it ends, since they are its receipt if it spends its effort.
 
 use crate::clauses::{ClauseHead, KeptClauses};
 use crate::engine::Engine;
 use crate::hint::Hint;
 use crate::literal::Literal;
 use crate::policy::{
-    LINES_BETWEEN_REDUCTIONS, LINES_TO_ONE_DROPPED, MOST_LEVELS_OF_KEPT_LINE,
+    LINES_BETWEEN_REDUCTIONS, LINES_TO_ONE_DROPPED, MOST_LEVELS_OF_KEPT_LINE, Purpose,
     SPARE_LINES_BEFORE_SWEEP,
 };
 use crate::trail::Value;
@@ -88,7 +91,7 @@ impl Engine {
         found
     }
 
-    // If many lines are stored, deletes those that no clause and no fact needs.
+    // If many lines are stored, deletes those that no clause, no fact and no receipt needs.
     fn drop_unneeded_lines(&mut self, alloc: Global) -> Result<(), NoMemory> {
         if !self.lines.is_sweep_due(SPARE_LINES_BEFORE_SWEEP) {
             return Ok(());
@@ -96,6 +99,11 @@ impl Engine {
         let mut needed = filled(alloc, self.lines.len(), false)?;
         for head in self.clauses.heads() {
             if let Hint::Line(line) = head.name {
+                write(&mut needed, line, true);
+            }
+        }
+        if self.purpose == Purpose::Answers {
+            for line in self.first_line..self.lines.len() {
                 write(&mut needed, line, true);
             }
         }

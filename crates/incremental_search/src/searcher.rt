@@ -17,7 +17,7 @@ pub enum Progress {
     Open,
     /// The query has ended with this suggestion.
     Ended(Suggestion),
-    /// The effort is spent.
+    /// The effort is spent, and too few of the lines are fresh for a receipt.
     Spent,
     /// No query was begun, or the knowledge was about other stations than the query is. All of it is forgotten.
     Lost,
@@ -62,7 +62,8 @@ impl Searcher {
     ///
     /// The stations of the set that have no channel in the last map are tested. `from`, if given, is the change of a known fit of the
     /// tested station, from which the search begins. For each tested station the search has `effort` conflicts, and a local search
-    /// helps. If it finds a log of more than `effort` lines, it looks for a shorter one.
+    /// helps. If it finds a log of more than `effort` lines, it looks for a shorter one. If the effort is spent, or no log is short
+    /// enough, it suggests a receipt of `effort` lines.
     ///
     /// # Errors
     /// Fails only if memory runs out. Then no query is begun, and the searcher can be used again.
@@ -115,7 +116,7 @@ impl Searcher {
     ) -> Result<Progress, NoMemory> {
         let conflicts = conflicts.min(self.left);
         match engine.search(alloc, conflicts)? {
-            QueryProgress::Open => Ok(self.continue_open(engine, conflicts)),
+            QueryProgress::Open => self.continue_open(alloc, engine, conflicts),
             QueryProgress::Next => Ok(self.begin_next(engine)),
             QueryProgress::Fits => self.suggest_fit(alloc, engine, set, last),
             QueryProgress::Refuted { line } => self.suggest_unfit(alloc, engine, line),
@@ -124,13 +125,28 @@ impl Searcher {
     }
 
     // Keeps the search after this many conflicts, which may have spent the effort.
-    fn continue_open(&mut self, engine: Engine, conflicts: u32) -> Progress {
+    fn continue_open(
+        &mut self,
+        alloc: Global,
+        engine: Engine,
+        conflicts: u32,
+    ) -> Result<Progress, NoMemory> {
         self.left = self.left.saturating_sub(conflicts);
-        self.engine = Some(engine);
         if self.left == 0 {
-            return Progress::Spent;
+            return self.suggest_receipt(alloc, engine);
         }
-        Progress::Open
+        self.engine = Some(engine);
+        Ok(Progress::Open)
+    }
+
+    // Suggests a receipt of the spent effort, if enough lines of the tested station's test are fresh.
+    fn suggest_receipt(&mut self, alloc: Global, mut engine: Engine) -> Result<Progress, NoMemory> {
+        let receipt = engine.receipt(alloc, self.effort)?;
+        self.engine = Some(engine);
+        match receipt {
+            Some(log) => Ok(Progress::Ended(Suggestion::Spent(log))),
+            None => Ok(Progress::Spent),
+        }
     }
 
     // Gives the next tested station the complete effort.
@@ -205,7 +221,7 @@ impl Searcher {
         Ok(self.keep_shortening(engine, shortening))
     }
 
-    // Ends the search for a shorter disproof, and suggests the shortest one.
+    // Ends the search for a shorter disproof. Suggests the shortest one if it is short enough, and otherwise a receipt.
     fn suggest_shortest(
         &mut self,
         alloc: Global,
@@ -214,10 +230,12 @@ impl Searcher {
     ) -> Result<Progress, NoMemory> {
         let (shorter, group) = shortening.into_ended();
         self.group = Some(group);
-        match shorter {
-            Some(disproof) => Ok(self.suggest_shorter(engine, disproof)),
-            None => self.suggest_gathered(alloc, engine),
+        if let Some(disproof) = shorter {
+            if disproof.log.lines.len() <= self.effort as usize {
+                return Ok(self.suggest_shorter(engine, disproof));
+            }
         }
+        self.suggest_receipt(alloc, engine)
     }
 
     // Suggests a disproof that is shorter than the gathered one.

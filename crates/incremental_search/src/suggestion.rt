@@ -12,6 +12,8 @@ pub enum Suggestion {
     Fit(ChannelMap),
     /// Some stations of the set do not fit.
     Unfit(Disproof),
+    /// The effort is spent: as many fresh lines as the effort, over the packing formula of the set.
+    Spent(Log),
 }
 
 /// Stations that do not fit, ascending, with a log over their packing formula whose last line is empty.

@@ -9,20 +9,21 @@ use search_base::checked_access::saturating_u32;
 use std::alloc::{AllocError as NoMemory, Global};
 use std::test::Fail;
 
-// A searcher's answer for a set: a fit, or a refutation with the length of its log in lines. `Nothing`: no answer.
+// A searcher's answer for a set: a fit, or a refutation or a receipt with the length of its log in lines. `Nothing`: no answer.
 #[derive(Clone, Copy, Debug, PartialEq, Eq)]
 enum Told {
     Fit,
     Unfit(usize),
+    Spent(usize),
     Nothing,
 }
 
 impl Told {
-    // Returns the number of lines of the log, if the answer has one.
+    // Returns the number of lines of the log, if the answer is a refutation.
     fn lines(self) -> Option<usize> {
         match self {
             Told::Unfit(lines) => Some(lines),
-            Told::Fit | Told::Nothing => None,
+            Told::Fit | Told::Spent(_) | Told::Nothing => None,
         }
     }
 }
@@ -31,6 +32,7 @@ fn suggestion_kind(suggestion: &Suggestion) -> Told {
     match suggestion {
         Suggestion::Fit(_) => Told::Fit,
         Suggestion::Unfit(disproof) => Told::Unfit(disproof.log.lines.len()),
+        Suggestion::Spent(log) => Told::Spent(log.lines.len()),
     }
 }
 
@@ -109,5 +111,19 @@ fn a_searcher_without_memory_can_be_used_again(rt: HostRuntime) -> Result<(), Fa
     assert!(rt; is_empty(alloc, &mut searcher, &none));
     let others = asked_again(alloc, &mut searcher, &book, &STATIONS[1..], &none, 1000)?;
     assert_eq!(rt; others, Told::Fit);
+    Ok(())
+}
+
+#[test]
+fn a_searcher_that_spends_its_effort_has_a_receipt_of_it(rt: HostRuntime) -> Result<(), Fail> {
+    let alloc = rt.alloc();
+    let book = six_on_five(alloc).ok_or("no memory")?;
+    let none = ChannelMap::of(alloc, &[])?;
+    // The effort is for each station, so the first five fit, and the sixth needs more lines than these.
+    for effort in [1, 2, 3, 5, 8, 13] {
+        let mut searcher = Searcher::new(0);
+        let told = asked(alloc, &mut searcher, &book, &STATIONS, &none, effort)?;
+        assert_eq!(rt; told, Told::Spent(effort as usize));
+    }
     Ok(())
 }

@@ -57,6 +57,21 @@ fn a_budget_of_one_line_is_spent_where_there_is_a_conflict(rt: HostRuntime) -> R
     Ok(())
 }
 
+#[test]
+fn the_receipts_of_the_incremental_search_are_accepted(rt: HostRuntime) -> Result<(), Fail> {
+    let alloc = rt.alloc();
+    let book = packing(alloc, 7, 6, |_, _, _| true).ok_or("no memory")?;
+    for budget in [1, 7, 40, 100] {
+        let worker = learner(budget, 0);
+        let mut solver = Cdcl::new(alloc, &worker)?;
+        let task = task(alloc, &[0, 1, 2, 3, 4, 5, 6], &[])?;
+        let said = attempted(alloc, &mut solver, &worker, &book, &task, ALWAYS);
+        assert_eq!(rt; said, Said::Spent(budget as usize));
+        assert_eq!(rt; solver.search_counts().spent, 1, "budget {budget}");
+    }
+    Ok(())
+}
+
 // Station 1 has one channel. If station 2 uses that channel, and station 3 the other channel of station 2, both must move.
 const CHAIN: &str = "DOMAIN,1,14\nDOMAIN,2,14,15\nDOMAIN,3,15,16\n";
 
@@ -140,17 +155,17 @@ fn of_six(alloc: Global, budget: u32, seed: u64, stands: u32) -> Option<Said> {
 }
 
 // The incremental searcher tests one station after another, and the first five fit at once. At the sixth station it spends the
-// budget. Then it learns as many lines for a receipt.
+// budget, and makes its receipt of what it has learnt.
 #[test]
 fn the_poll_is_asked_before_the_first_conflict_and_then_after_each_16(
     rt: HostRuntime,
 ) -> Result<(), Fail> {
     let said = [
         (0, 1, Said::Moved(6)),
-        (6, 16, Said::Moved(6)),
-        (7, 16, Said::Spent(16)),
-        (8, 17, Said::Moved(6)),
-        (9, 17, Said::Spent(17)),
+        (5, 16, Said::Moved(6)),
+        (6, 16, Said::Spent(16)),
+        (6, 17, Said::Moved(6)),
+        (7, 17, Said::Spent(17)),
     ];
     for (stands, budget, said) in said {
         let of_six = of_six(rt.alloc(), budget, 0, stands);
