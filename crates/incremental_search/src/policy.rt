@@ -1,7 +1,7 @@
 //! The searcher's policy: parameters that no proof depends on, so that measurements can change them.
 //!
-//! `benchmarks/run` times single auctions with the searcher, and `benchmarks/batch` many at once. The comments cite what they, and a
-//! model of the searcher, found for single parameters (`benchmarks/README.md`, and `docs/DECISIONS.md` of the model).
+//! `benchmarks/time/run` times single auctions with the searcher, and `benchmarks/time/batch` many at once. `docs/DECISIONS.md` has what
+//! a model of the searcher showed of single parameters.
 
 /// What an engine searches for.
 #[derive(Clone, Copy, Debug, PartialEq, Eq)]
@@ -36,8 +36,8 @@ pub(crate) const BUDGETS_OF_SHORTER_LOG: u32 = 3;
 pub(crate) const SEARCHES_FROM_NOTHING: u32 = 3;
 
 /// The crowd's engine is used if at most one in this many of a log's stations is new to it. Lines learnt of other stations lead through
-/// those stations. With one engine for all crowds, the model left 1,401,062 lines of logs, and with one for each crowd 1,123,787
-/// (`docs/DECISIONS.md`). The share was chosen without a measurement.
+/// those stations. With one engine for all crowds, the model left a quarter more lines of logs (`docs/DECISIONS.md`). The share was chosen
+/// without a measurement.
 pub(crate) const GROUP_STATIONS_TO_ONE_NEW: u32 = 5;
 
 /// A conflict makes each variable that it meets more active by this many steps. Chosen without a measurement.
