@@ -32,7 +32,7 @@ pub(crate) const LITERALS_OF_SHORT_CLAUSE: u32 = 6;
 /// A search for a shorter log has this many times the worker's budget of conflicts.
 pub(crate) const BUDGETS_OF_SHORTER_LOG: u32 = 3;
 
-/// A log that is still too long is searched for again from nothing, over its stations alone, up to this many times.
+/// If no log is short enough then, one is searched for from nothing, over the stations of the shortest, up to this many times.
 pub(crate) const SEARCHES_FROM_NOTHING: u32 = 3;
 
 /// The crowd's engine is used if at most one in this many of a log's stations is new to it. Lines learnt of other stations lead through

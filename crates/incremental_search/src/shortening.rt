@@ -65,7 +65,10 @@ impl Shortening {
         match self.engine.search(alloc, conflicts)? {
             QueryProgress::Open => {
                 self.left = self.left.saturating_sub(conflicts);
-                Ok(self.left == 0)
+                if self.left > 0 {
+                    return Ok(false);
+                }
+                self.is_over(alloc)
             }
             QueryProgress::Refuted { line } => {
                 self.take(alloc, line)?;
@@ -93,7 +96,7 @@ impl Shortening {
     }
 
     // Returns true if the shortest disproof is short enough or no search from nothing is left. Otherwise begins one, with a seed of its
-    // own, so that it is not the search before.
+    // own, so that it is another search than those before.
     fn is_over(&mut self, alloc: Global) -> Result<bool, NoMemory> {
         if self.searches == 0 || self.lines <= self.budget as usize {
             return Ok(true);
