@@ -1,7 +1,7 @@
 -- The test history, as the program keeps it: the components of the stations on air, the steps, and for each station how many
 -- stations were on air at its last test and where its last fit is. The representation is this project's own.
 use Rattle.std.specs.Prelude.{ℕ, ◌≡◌, ◌≤◌, ◌<◌, List, [], ◌∷◌, ◌++◌, length, slice_index, slice_set}
-use Rattle.pack_defs.specs.declared.limits.TheConstants.{MOST_STATIONS}
+use Rattle.pack_defs.specs.Limits.{MOST_STATIONS}
 use Rattle.auction_core.specs.ComponentLabels.{ComponentLabelsView}
 use Rattle.auction_core.specs.declared.record.Shown.{Shown}
 use Rattle.auction_core.specs.declared.record.Step.{Step}

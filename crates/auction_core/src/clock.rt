@@ -5,7 +5,7 @@ ghost use Rattle.std.specs.Prelude.{◌≡◌, ◌<◌, ◌≤◌, ◌*◌, [], 
 ghost use Rattle.pack_defs.specs.Scenario.{IsWithinLimits, facilities};
 ghost use Rattle.pack_defs.specs.Prices.{last_round, prices};
 ghost use Rattle.pack_defs.specs.ClockRule.{exits, opening_state};
-ghost use Rattle.pack_defs.specs.declared.limits.TheConstants.{MOST_STATIONS};
+ghost use Rattle.pack_defs.specs.Limits.{MOST_STATIONS};
 ghost use Rattle.freeze_ledger.specs.Ledger.{price_of, sum_paid, with_price};
 ghost use Rattle.auction_core.specs.Clock.{IsClockOf, answered_clock, declines_offer, most_paid, opening_status, is_status_active, is_status_on_air};
 

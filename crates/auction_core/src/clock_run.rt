@@ -9,7 +9,7 @@ ghost use Rattle.pack_defs.specs.Lists.{has_station, is_empty, is_in};
 ghost use Rattle.pack_defs.specs.ClockRule.{is_active, opening_state};
 ghost use Rattle.pack_defs.specs.Prices.{last_round};
 ghost use Rattle.pack_defs.specs.Scenario.{facilities};
-ghost use Rattle.pack_defs.specs.declared.limits.TheConstants.{MOST_STATIONS};
+ghost use Rattle.pack_defs.specs.Limits.{MOST_STATIONS};
 ghost use Rattle.auction_core.specs.Backed.{IsStartShown, IsStepShown, record_of};
 ghost use Rattle.auction_core.specs.Clock.{AreStatuses, is_status_on_air};
 ghost use Rattle.auction_core.specs.ClockRun.{IsAtRest, IsClockRun, IsDue, IsSettled, clock_of, core_state, is_roomy, left_of, map_after, next_test, places_left, unasked_of, with_start_shown};

@@ -6,7 +6,7 @@ ghost use Rattle.std.specs.Prelude.{◌≡◌, ◌+◌, ◌<◌, ◌≤◌, IfOk
 ghost use Rattle.pack_defs.specs.ClockRule.{round_order};
 ghost use Rattle.pack_defs.specs.Prices.{last_round, prices};
 ghost use Rattle.pack_defs.specs.Scenario.{facilities};
-ghost use Rattle.pack_defs.specs.declared.limits.TheConstants.{MOST_ROUNDS, MOST_STATIONS};
+ghost use Rattle.pack_defs.specs.Limits.{MOST_ROUNDS, MOST_STATIONS};
 ghost use Rattle.auction_core.specs.Setup.{IsOfAuction, IsSetupSound};
 
 use crate::round_order::places;

@@ -3,7 +3,7 @@
 
 ghost use Rattle.std.specs.Prelude.{◌≡◌, ◌≤◌, ◌<◌, ◌+◌, ℕ, [], IfOk, IsTrue, OnOk, is_some, length, map, option_map, slice_index, true, unwrap_or};
 ghost use Rattle.pack_defs.specs.Lists.{is_ascending, is_in};
-ghost use Rattle.pack_defs.specs.declared.limits.TheConstants.{MOST_STATIONS};
+ghost use Rattle.pack_defs.specs.Limits.{MOST_STATIONS};
 ghost use Rattle.auction_core.specs.ComponentLabels.{label_of, labelled, relabelled, touches_since};
 ghost use Rattle.auction_core.specs.TestHistory.{with_settled_step};
 ghost use Rattle.auction_core.specs.State.{fit_of, last_fit};

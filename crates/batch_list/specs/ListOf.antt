@@ -6,7 +6,6 @@ use Rattle.std.specs.Str.{is_utf8}
 use Rattle.constraint_files.specs.Records.{line_records, lines_of}
 use Rattle.batch_list.specs.declared.error.ListErr.{ListErr}
 use Rattle.batch_list.specs.declared.error.ListErr.TheVariants.{BadLine, Empty}
-use Rattle.batch_list.specs.declared.read.TheConstants.{LIST_LIMIT}
 
 -- The names of a record, in bytes: of a scenario file, and of the file for its result.
 pub record ListedNames : Type 0 where
@@ -15,7 +14,7 @@ pub record ListedNames : Type 0 where
 
 -- The most records of a list.
 abbrev pub list_limit : ℕ
-list_limit = LIST_LIMIT
+list_limit = 256
 
 -- The names in the fields of a record, if it has two fields and both are UTF-8.
 abbrev pub listed_of : List (List ℕ) → Option ListedNames

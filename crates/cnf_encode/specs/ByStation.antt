@@ -1,6 +1,6 @@
 -- What each station contributes to the formula of a set.
 use Rattle.std.specs.Prelude.{ℕ, ◌≡◌, ◌==◌, ◌+◌, ◌*◌, ◌≤◌, List, length, take, filter, slice_index, count_by}
-use Rattle.pack_defs.specs.declared.limits.TheConstants.{MOST_STATIONS}
+use Rattle.pack_defs.specs.Limits.{MOST_STATIONS}
 use Rattle.pack_defs.specs.declared.pair.Pair.{Pair}
 use Rattle.pack_defs.specs.Book.{BookView, stations_of}
 use Rattle.pack_defs.specs.Lists.{is_in}

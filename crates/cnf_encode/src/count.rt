@@ -3,7 +3,7 @@
 ghost use Rattle.std.specs.Prelude.{◌≡◌, ◌*◌, ◌+◌, ◌<◌, ◌≤◌, ◌^◌, ℕ, IsTrue, length, map, slice_index};
 ghost use Rattle.std.specs.List.{filter, flat_map};
 ghost use Rattle.pack_defs.specs.Lists.{is_ascending};
-ghost use Rattle.pack_defs.specs.declared.limits.TheConstants.{MOST_STATIONS};
+ghost use Rattle.pack_defs.specs.Limits.{MOST_STATIONS};
 ghost use Rattle.cnf_encode.specs.ByStation.{pairs_inside_from};
 ghost use Rattle.cnf_encode.specs.Formula.{at_most_one, is_inside, packing_formula, station_variables};
 

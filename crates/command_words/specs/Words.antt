@@ -8,7 +8,6 @@ use Rattle.clap.specs.Simple.{on_top}
 use Rattle.clap.specs.Walk.{is_empty}
 use Rattle.clap.specs.ValueTests.{is_unsigned_in}
 use Rattle.clap.specs.declared.builder.value_parser.ValueParser.TheVariants.{Unsigned}
-use Rattle.scenario_make.specs.declared.limits.TheConstants.{MOST_GENERATED}
 use Rattle.command_words.specs.declared.batch_words.BatchArgs.{BatchArgs}
 use Rattle.command_words.specs.declared.make_words.MakeArgs.{MakeArgs}
 use Rattle.command_words.specs.declared.proof_words.ExportArgs.{ExportArgs}
@@ -177,7 +176,7 @@ seed_limit = 18446744073709551615
 
 -- The most stations of a generated auction.
 abbrev pub size_limit : ℕ
-size_limit = MOST_GENERATED
+size_limit = 4096
 
 -- The greatest number of a step.
 abbrev pub step_limit : ℕ

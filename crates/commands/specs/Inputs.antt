@@ -26,7 +26,6 @@ use Rattle.command_words.specs.declared.run_words.Input.TheVariants.{Domains, Ro
 use Rattle.commands.specs.declared.messages.refusal.Refusal.TheVariants.{TooLong, Row, Scenario as BadScenario, MissingDomain, Owners as BadOwners}
 use Rattle.commands.specs.declared.inputs.Inputs.{Inputs}
 use Rattle.commands.specs.declared.inputs.sources.Sources.{Sources}
-use Rattle.commands.specs.declared.inputs.input_file.TheConstants.{FILE_LIMIT}
 use Rattle.commands.specs.declared.inputs.input_file.Stop.{Stop}
 use Rattle.commands.specs.declared.inputs.input_file.Stop.TheVariants.{CannotRead, Refused, NoMemory}
 use Rattle.command_words.specs.Words.{InputNames}
@@ -38,7 +37,7 @@ and_then (Err e) f = Err e
 
 -- The greatest length of an input file, in bytes.
 abbrev pub file_limit : ℕ
-file_limit = FILE_LIMIT
+file_limit = 268435456
 
 -- The greatest length of a transcript, or of the beginning of one, in bytes: 2 to the power of 36.
 abbrev pub transcript_limit : ℕ

@@ -2,7 +2,7 @@
 use Rattle.std.specs.Prelude.{◌≡◌, ◌≤◌, ◌<◌, ◌&&◌, ◌==◌, ◌++◌, ◌-◌, ℕ, All, Bool, true, false, List, map, Option, None, Ok, Result, IsFalse, MatchOption, codes, if◌then◌else◌}
 use Rattle.std.specs.List.{list_any}
 use Rattle.outside_io.specs.Files.{StoredFile}
-use Rattle.pack_defs.specs.declared.limits.TheConstants.{GREATEST_CHANNEL, LEAST_CHANNEL}
+use Rattle.pack_defs.specs.Limits.{GREATEST_CHANNEL, LEAST_CHANNEL}
 use Rattle.pack_defs.specs.Scenario.{IsWithinLimits, facilities}
 use Rattle.scenario_json.specs.Join.{first_missing}
 use Rattle.scenario_json.specs.StartOnly.{start_only}

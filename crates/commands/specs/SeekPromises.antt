@@ -1,6 +1,6 @@
 -- What `seek` promises, clause by clause.
 use Rattle.std.specs.Prelude.{◌≡◌, ◌≢◌, ◌⊎◌, ◌<◌, ◌≤◌, ℕ, Bool, false, true, List, [], ◌∷◌, length, Option, Some, None, Ok, IsFalse, IsTrue, MatchOption}
-use Rattle.pack_defs.specs.declared.limits.TheConstants.{LEAST_CHANNEL}
+use Rattle.pack_defs.specs.Limits.{LEAST_CHANNEL}
 use Rattle.pack_defs.specs.Lists.{is_in}
 use Rattle.pack_defs.specs.Packing.{IsPacking}
 use Rattle.pack_defs.specs.Prices.{start_set}

@@ -5,7 +5,7 @@ use Rattle.std.specs.Option.{is_some, ok_or}
 use Rattle.std.specs.Str.{bytes_eq}
 use Rattle.pack_defs.specs.Lists.{is_in}
 use Rattle.pack_defs.specs.declared.domain.Domain.{Domain}
-use Rattle.pack_defs.specs.declared.limits.TheConstants.{LEAST_CHANNEL, MOST_DOMAIN_ROWS}
+use Rattle.pack_defs.specs.Limits.{LEAST_CHANNEL, MOST_DOMAIN_ROWS}
 use Rattle.constraint_files.specs.Field.{number, numbers, is_channel}
 use Rattle.constraint_files.specs.LineReader.{FeedState, fed_on}
 use Rattle.constraint_files.specs.Records.{lines_of, after_lines}

@@ -2,7 +2,7 @@
 use Rattle.std.specs.Prelude.{ℕ, Bool, not, ◌&&◌, nat_le, if◌then◌else◌, List, [], ◌∷◌, Option, Some, None}
 use Rattle.std.specs.Str.{all_ascii_digits}
 use Rattle.std.specs.Str.Parse.{digits_value}
-use Rattle.pack_defs.specs.declared.limits.TheConstants.{GREATEST_CHANNEL}
+use Rattle.pack_defs.specs.Limits.{GREATEST_CHANNEL}
 use Rattle.pack_defs.specs.Lists.{is_empty}
 use Rattle.std.specs.Option.{option_and_then}
 

@@ -6,7 +6,7 @@ use Rattle.std.specs.Str.{bytes_eq}
 use Rattle.pack_defs.specs.Book.{comes_before, has_two_stations, pairs_ascend}
 use Rattle.pack_defs.specs.Lists.{is_in}
 use Rattle.pack_defs.specs.declared.domain.Domain.{Domain}
-use Rattle.pack_defs.specs.declared.limits.TheConstants.{MOST_PAIRS}
+use Rattle.pack_defs.specs.Limits.{MOST_PAIRS}
 use Rattle.pack_defs.specs.declared.pair.Pair.{Pair}
 use Rattle.constraint_files.specs.declared.error.ReadErr.{ReadErr}
 use Rattle.constraint_files.specs.declared.error.RowWhy.{RowWhy}

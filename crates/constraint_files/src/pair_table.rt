@@ -1,7 +1,7 @@
 //! The pairs of the records read so far.
 
 ghost use Rattle.std.specs.Prelude.{◌≡◌, [], ℕ, List, Option, fold, IfOk, OnOk, length, nat_lt, option_map};
-ghost use Rattle.pack_defs.specs.declared.limits.TheConstants.{MOST_PAIRS};
+ghost use Rattle.pack_defs.specs.Limits.{MOST_PAIRS};
 ghost use Rattle.pack_defs.specs.Lists.{is_in};
 ghost use Rattle.constraint_files.specs.Domains.{channels_of};
 ghost use Rattle.constraint_files.specs.Reads.{Changes};

@@ -1,6 +1,6 @@
 -- What a book stores besides its domains and pairs, for fast lookup. None of this is part of the book's meaning.
 use Rattle.std.specs.Prelude.{◌≡◌, ◌≤◌, ℕ, List, length}
-use Rattle.pack_defs.specs.declared.limits.TheConstants.{MOST_STATIONS}
+use Rattle.pack_defs.specs.Limits.{MOST_STATIONS}
 use Rattle.pack_defs.specs.declared.pair.Pair.{Pair}
 use Rattle.pack_defs.specs.Book.{BookView, IsInOrder}
 use Rattle.pack_defs.specs.Neighbours.{lists_for}

@@ -1,4 +1,8 @@
-//! The limits of an auction's files. Definitions cite these constants, and readers reject what exceeds them.
+//! The limits of an auction's files. Readers reject what exceeds them.
+
+ghost use Rattle.std.specs.Prelude.{◌≡◌};
+ghost use Rattle.pack_defs.specs.Limits as limit;
+ghost use Rattle.pack_defs.specs.declared.limits.TheConstants as constant;
 
 /// The most stations of a scenario, and therefore of a book. A scenario with more is rejected.
 pub const MOST_STATIONS: u64 = 8_192;
@@ -42,3 +46,21 @@ pub const LEAST_CHANNEL: u8 = 14;
 
 /// The greatest channel that a station may have, and the greatest top channel of a scenario. A file that names a greater one is rejected.
 pub const GREATEST_CHANNEL: u8 = 51;
+
+/// Each constant is the number that the definitions give.
+pub fn prove_limits()
+    ensures most_stations { constant.MOST_STATIONS ≡ limit.MOST_STATIONS }
+    ensures most_rounds { constant.MOST_ROUNDS ≡ limit.MOST_ROUNDS }
+    ensures most_decrement { constant.MOST_DECREMENT ≡ limit.MOST_DECREMENT }
+    ensures most_thousandths { constant.MOST_THOUSANDTHS ≡ limit.MOST_THOUSANDTHS }
+    ensures most_opening { constant.MOST_OPENING ≡ limit.MOST_OPENING }
+    ensures most_volume { constant.MOST_VOLUME ≡ limit.MOST_VOLUME }
+    ensures most_value { constant.MOST_VALUE ≡ limit.MOST_VALUE }
+    ensures most_workers { constant.MOST_WORKERS ≡ limit.MOST_WORKERS }
+    ensures most_proof_lines { constant.MOST_PROOF_LINES ≡ limit.MOST_PROOF_LINES }
+    ensures most_moves { constant.MOST_MOVES ≡ limit.MOST_MOVES }
+    ensures most_pairs { constant.MOST_PAIRS ≡ limit.MOST_PAIRS }
+    ensures most_domain_rows { constant.MOST_DOMAIN_ROWS ≡ limit.MOST_DOMAIN_ROWS }
+    ensures least_channel { constant.LEAST_CHANNEL ≡ limit.LEAST_CHANNEL }
+    ensures greatest_channel { constant.GREATEST_CHANNEL ≡ limit.GREATEST_CHANNEL }
+{}

@@ -1,7 +1,7 @@
 //! The scenario of the stations that start on air, and of no others: `seek` carries out such auctions up to several top channels.
 
 ghost use Rattle.std.specs.Prelude.{◌≡◌, ◌≤◌, IfOk, filter};
-ghost use Rattle.pack_defs.specs.declared.limits.TheConstants.{GREATEST_CHANNEL, LEAST_CHANNEL};
+ghost use Rattle.pack_defs.specs.Limits.{GREATEST_CHANNEL, LEAST_CHANNEL};
 ghost use Rattle.pack_defs.specs.Scenario.{IsWithinLimits};
 ghost use Rattle.scenario_json.specs.StartOnly.{declines_opening, start_only};
 

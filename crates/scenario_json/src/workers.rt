@@ -3,7 +3,7 @@
 ghost use Rattle.std.specs.Prelude.{◌≡◌, ◌≤◌, map};
 ghost use Rattle.std.specs.List.{list_any};
 ghost use Rattle.serde_json.specs.View.{view};
-ghost use Rattle.pack_defs.specs.declared.limits.TheConstants.{MOST_MOVES};
+ghost use Rattle.pack_defs.specs.Limits.{MOST_MOVES};
 ghost use Rattle.pack_defs.specs.Scenario.{is_prover, most_budget};
 ghost use Rattle.scenario_json.specs.ScenarioOf.{kind_in, kind_named, seed_in, worker_in, workers_in};
 ghost use Rattle.scenario_json.specs.Steps.{ScenarioReads, each_from};

@@ -6,7 +6,7 @@ use Rattle.serde_json.specs.Written.{compact_text}
 use Rattle.pack_defs.specs.Lists.{is_empty}
 use Rattle.pack_defs.specs.declared.domain.Domain.{Domain}
 use Rattle.pack_defs.specs.declared.fall.Fall.TheVariants.{Listed}
-use Rattle.pack_defs.specs.declared.limits.TheConstants.{MOST_PROOF_LINES}
+use Rattle.pack_defs.specs.Limits.{MOST_PROOF_LINES}
 use Rattle.pack_defs.specs.declared.scenario.Scenario.{Scenario}
 use Rattle.pack_defs.specs.declared.station.Station.{Station}
 use Rattle.pack_defs.specs.declared.worker.Kind.TheVariants.{Cdcl, Walk}

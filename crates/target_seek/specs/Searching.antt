@@ -1,6 +1,6 @@
 -- The invariant of a search for the least top: how its state relates to the answers so far.
 use Rattle.std.specs.Prelude.{ℕ, ◌≡◌, ◌≤◌, ◌<◌, ◌+◌, ◌-◌, ◌^◌, List, [], ◌∷◌, ◌++◌, Some, None, Result, IfOk, length}
-use Rattle.pack_defs.specs.declared.limits.TheConstants.{GREATEST_CHANNEL, LEAST_CHANNEL}
+use Rattle.pack_defs.specs.Limits.{GREATEST_CHANNEL, LEAST_CHANNEL}
 use Rattle.target_seek.specs.declared.search.AnswerBelow.{AnswerBelow}
 use Rattle.target_seek.specs.declared.search.AnswerBelow.TheVariants as below
 use Rattle.target_seek.specs.declared.search.TopRange.{TopRange}

@@ -2,7 +2,7 @@
 //! 51 are 38 channels.
 
 ghost use Rattle.std.specs.Prelude.{◌≡◌, ◌≤◌, ◌<◌, ◌+◌, ◌++◌, ◌∷◌, ℕ, [], IsSome, List, MatchOption, None, Some, length, ⊤};
-ghost use Rattle.pack_defs.specs.declared.limits.TheConstants.{GREATEST_CHANNEL, LEAST_CHANNEL};
+ghost use Rattle.pack_defs.specs.Limits.{GREATEST_CHANNEL, LEAST_CHANNEL};
 ghost use Rattle.target_seek.specs.BinarySearch.{full_range, found_at, range_after, middle_of, next_at, next_of, stage_after, questions_left};
 ghost use Rattle.target_seek.specs.Searching.{IsSearching};
 ghost use Rattle.target_seek.specs.TopChannels.{AreTrue, AskedTop, IsSought, IsTruth, SeekBase};

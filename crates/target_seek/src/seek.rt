@@ -1,7 +1,7 @@
 //! The search for the least top channel, which runs the tests itself.
 
 ghost use Rattle.std.specs.Prelude.{◌≡◌, ◌≤◌, IfOk};
-ghost use Rattle.pack_defs.specs.declared.limits.TheConstants.{GREATEST_CHANNEL, LEAST_CHANNEL};
+ghost use Rattle.pack_defs.specs.Limits.{GREATEST_CHANNEL, LEAST_CHANNEL};
 ghost use Rattle.target_seek.specs.Searching.{IsSearched};
 ghost use Rattle.target_seek.specs.TopChannels.{IsTruth};
 

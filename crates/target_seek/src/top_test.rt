@@ -1,7 +1,7 @@
 //! The test of a top channel.
 
 ghost use Rattle.std.specs.Prelude.{◌≡◌, ◌≤◌, ◌++◌, ◌∷◌, [], IfErr, IfOk};
-ghost use Rattle.pack_defs.specs.declared.limits.TheConstants.{GREATEST_CHANNEL, LEAST_CHANNEL};
+ghost use Rattle.pack_defs.specs.Limits.{GREATEST_CHANNEL, LEAST_CHANNEL};
 ghost use Rattle.target_seek.specs.TopChannels.{IsTrueAt};
 
 use std::alloc::AllocError as NoMemory;

@@ -2,7 +2,7 @@
 use Rattle.std.specs.Prelude.{ℕ, Bool, true, false, not, ◌≡◌, ◌<◌, ◌≤◌, get_or, ◌+◌, ◌==◌, nat_lt, nat_le, if◌then◌else◌, List, [], ◌∷◌, length, Option, Some, None, Result, Ok, Err}
 use Rattle.std.specs.Str.{all_ascii_digits, bytes_eq}
 use Rattle.pack_defs.specs.Lists.{is_empty, is_in}
-use Rattle.pack_defs.specs.declared.limits.TheConstants.{GREATEST_CHANNEL, LEAST_CHANNEL}
+use Rattle.pack_defs.specs.Limits.{GREATEST_CHANNEL, LEAST_CHANNEL}
 use Rattle.pack_defs.specs.declared.scenario.Scenario.{Scenario}
 use Rattle.pack_defs.specs.Scenario.{facilities}
 use Rattle.lrat_text.specs.declared.field.Field.{Field}
@@ -11,7 +11,6 @@ use Rattle.lrat_text.specs.Read.{natural, field_of}
 use Rattle.lrat_text.specs.Write.{greatest}
 use Rattle.transcript_text.specs.declared.error.TextErr.{TextErr}
 use Rattle.transcript_text.specs.declared.error.TextErr.TheVariants.{BadLine, Truncated}
-use Rattle.transcript_text.specs.declared.fields.TheConstants.{GREATEST_U32, MOST_COUNTED}
 use Rattle.pack_defs.specs.Steps.{◌>>=◌}
 
 -- The complete lines that are left of a text, and the number of the first of them.
@@ -83,11 +82,11 @@ number_at most line = do
 
 -- The greatest round, station number or worker number that a field may have.
 abbrev pub greatest_u32 : ℕ
-greatest_u32 = GREATEST_U32
+greatest_u32 = 4294967295
 
 -- The greatest count of entries, log lines or moves that a field may have.
 abbrev pub most_counted : ℕ
-most_counted = MOST_COUNTED
+most_counted = 1000000
 
 -- A count of entries, log lines or moves, and the fields after it.
 abbrev pub count_at : RemainingFields → Result (ℕ × RemainingFields) TextErr

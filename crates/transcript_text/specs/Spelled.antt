@@ -2,7 +2,7 @@
 -- name them.
 use Rattle.std.specs.Prelude.{ℕ, ◌+◌, ◌<◌, ◌≤◌, ◌^◌, ◌≡◌, true, List, [], ◌∷◌, length, Option, Some, None}
 use Rattle.std.specs.List.{AllByRecursion}
-use Rattle.pack_defs.specs.declared.limits.TheConstants.{GREATEST_CHANNEL, LEAST_CHANNEL}
+use Rattle.pack_defs.specs.Limits.{GREATEST_CHANNEL, LEAST_CHANNEL}
 use Rattle.pack_defs.specs.declared.scenario.Scenario.{Scenario}
 use Rattle.pack_defs.specs.Scenario.{facilities}
 use Rattle.pack_defs.specs.Book.{BookView}
