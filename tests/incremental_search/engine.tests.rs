@@ -3,6 +3,8 @@ use pack_defs::book::Book;
 use pack_defs::domain::Domain;
 use pack_defs::items::Items;
 use pack_defs::pair::Pair;
+use search_base::grid::Grid;
+use std::sync::Arc;
 
 impl Engine {
     /// Returns an engine of stations numbered from 0, on channels from 14. No two stations may share a channel.
@@ -33,6 +35,7 @@ impl Engine {
             }
         }
         let book = Book::build(alloc, 51, &ids, &domains, &pairs)?;
-        Engine::new(alloc, Grid::of(alloc, &book)?, Purpose::Answers, 0)
+        let grid = Arc::new(alloc, Grid::of(alloc, &book)?)?;
+        Engine::new(alloc, grid, Purpose::Answers, 0)
     }
 }

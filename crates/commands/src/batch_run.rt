@@ -20,7 +20,7 @@ ghost use Rattle.commands.specs.Records.{IsRecordBy};
 use crate::inputs::Inputs;
 use auction_core::record::{Ending, Record};
 use batch_cache::cache::Cache;
-use race_wave::cached::run_cached;
+use race_wave::cached::{Shared, run_cached};
 use result_text::rows::result_csv;
 use solver_gate::gate::Gate;
 use std::alloc::{AllocError as NoMemory, Global};
@@ -78,14 +78,14 @@ fn cached_auction_of<G: Gate + Sync, W: Threads + Wait + Sync>(
     rt: &W,
     alloc: Global,
     inputs: &Inputs,
-    cache: &Mutex<Cache>,
+    shared: &Shared,
     gate: &G,
 ) -> Result<Record, NoMemory>
     requires { IsOfAuction inputs.now.scenario inputs.now.book }
     ensures { IfOk result (λ rec. IsRecordBy inputs.now rec rec.ending) }
 {
     inputs.book.keeps_order();
-    let record = run_cached(rt, alloc, &inputs.scenario, &inputs.book, cache, gate)?;
+    let record = run_cached(rt, alloc, &inputs.scenario, &inputs.book, shared, gate)?;
     Ok(record)
 }
 
@@ -109,13 +109,13 @@ fn carry_out<G: Gate + Sync, W: Threads + Wait + Sync>(
     rt: &W,
     alloc: Global,
     inputs: Inputs,
-    cache: &Mutex<Cache>,
+    shared: &Shared,
     gate: &G,
 ) -> Result<BatchRunResult, NoMemory>
     requires { IsOfAuction inputs.scenario inputs.book }
     ensures { IfOk result (IsRun inputs) }
 {
-    let record = cached_auction_of(rt, alloc, &inputs, cache, gate)?;
+    let record = cached_auction_of(rt, alloc, &inputs, shared, gate)?;
     let result = result_of(alloc, &inputs, &record)?;
     Ok(BatchRunResult { record, result })
 }
@@ -125,7 +125,7 @@ fn carry_out_in_turn<G: Gate + Sync, W: Threads + Wait + Sync>(
     rt: &W,
     alloc: Global,
     inputs: Inputs,
-    cache: &Mutex<Cache>,
+    shared: &Shared,
     permits: &Permits,
     gate: &G,
 ) -> Result<BatchRunResult, NoMemory>
@@ -133,7 +133,7 @@ fn carry_out_in_turn<G: Gate + Sync, W: Threads + Wait + Sync>(
     ensures { IfOk result (IsRun inputs) }
 {
     permits.take(rt);
-    let ran = carry_out(rt, alloc, inputs, cache, gate);
+    let ran = carry_out(rt, alloc, inputs, shared, gate);
     permits.give_back(rt);
     ran
 }
@@ -153,18 +153,18 @@ pub fn run_all<G: Gate + Sync, W: Threads + Wait + Sync>(
     requires { All (λ i. IsOfAuction i.scenario i.book) auctions.items }
     ensures { IfOk result (λ rans. AllZip IsRun auctions.items rans.items) }
 {
-    let cache = Mutex::new(Cache::make(alloc, CACHE_ROOM)?);
+    let shared = Shared::new(Cache::make(alloc, CACHE_ROOM)?);
     let permits = Permits::make(rt);
-    let rans = run_each(rt, alloc, auctions, &cache, &permits, gate)?;
+    let rans = run_each(rt, alloc, auctions, &shared, &permits, gate)?;
     all_or_error(alloc, rans)
 }
 
-// Runs these auctions with this cache and these permits. Returns for each of them what was run, or that it ran out of memory.
+// Runs these auctions with what they share and these permits. Returns for each of them what was run, or that it ran out of memory.
 fn run_each<G: Gate + Sync, W: Threads + Wait + Sync>(
     rt: &W,
     alloc: Global,
     auctions: Vec<Inputs>,
-    cache: &Mutex<Cache>,
+    shared: &Shared,
     permits: &Permits,
     gate: &G,
 ) -> Result<Vec<Result<BatchRunResult, NoMemory>>, NoMemory>
@@ -174,7 +174,7 @@ fn run_each<G: Gate + Sync, W: Threads + Wait + Sync>(
     let part = |inputs: Inputs| -> Result<BatchRunResult, NoMemory>
         requires { IsSync W.row × IsSync G.row × IsOfAuction inputs.scenario inputs.book }
         ensures { IfOk result (IsRun inputs) }
-    { carry_out_in_turn(rt, alloc, inputs, cache, permits, gate) };
+    { carry_out_in_turn(rt, alloc, inputs, shared, permits, gate) };
     thread::map_vec(rt, auctions, &part)
 }
 

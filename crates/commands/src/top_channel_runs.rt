@@ -6,7 +6,7 @@
 
 ghost use Rattle.std.specs.Prelude.{◌≡◌, ◌≢◌, ◌≤◌, ◌<◌, ◌++◌, ◌-◌, [], ◌∷◌, IfErr, IfOk, List, MatchOption, None, OnOk, false, length, true};
 ghost use Rattle.std.specs.List.{list_any};
-ghost use Rattle.pack_defs.specs.declared.limits.TheConstants.{GREATEST_CHANNEL, LEAST_CHANNEL};
+ghost use Rattle.pack_defs.specs.Limits.{GREATEST_CHANNEL, LEAST_CHANNEL};
 ghost use Rattle.auction_core.specs.Setup.{IsOfAuction};
 ghost use Rattle.target_seek.specs.TopChannels.{IsSought, IsTruth, SeekBase};
 ghost use Rattle.commands.specs.Records.{IsRecordBy};

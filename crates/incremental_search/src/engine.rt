@@ -10,7 +10,7 @@ use crate::policy::{LINES_BETWEEN_REDUCTIONS, Purpose, RESTART_UNIT};
 use crate::search_scope::{NOBODY, SearchScope};
 use crate::trail::KeptTrail;
 use local_search::local_search::{LocalSearch, Placement};
-use search_base::grid::Grid;
+use search_base::grid::SharedGrid;
 use search_base::restarts::Restarts;
 use search_base::tie_breaking::TieBreaking;
 use std::alloc::{AllocError as NoMemory, Global};
@@ -20,7 +20,7 @@ use std::alloc::{AllocError as NoMemory, Global};
 /// clauses: a channel that becomes true makes the others false.
 #[derive(Drop)]
 pub(crate) struct Engine {
-    pub(crate) grid: Grid,
+    pub(crate) grid: SharedGrid,
     pub(crate) trail: KeptTrail,
     pub(crate) clauses: KeptClauses,
     pub(crate) lines: KeptLines,
@@ -57,7 +57,7 @@ impl Engine {
     /// Returns an engine that knows only the stations, none of which is on air. A seed other than 0 breaks ties by chance.
     pub(crate) fn new(
         alloc: Global,
-        grid: Grid,
+        grid: SharedGrid,
         purpose: Purpose,
         seed: u64,
     ) -> Result<Engine, NoMemory> {

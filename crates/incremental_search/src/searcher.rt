@@ -7,8 +7,9 @@ use crate::shortening::Shortening;
 use crate::suggestion::{Disproof, Suggestion};
 use pack_defs::book::Book;
 use pack_defs::channel_map::ChannelMap;
-use search_base::grid::Grid;
+use search_base::grid::{Grid, SharedGrid};
 use std::alloc::{AllocError as NoMemory, Global};
+use std::sync::Arc;
 
 /// How far the searcher came with a query.
 #[derive(Debug, Drop)]
@@ -27,6 +28,8 @@ pub enum Progress {
 /// stations on air, whose number only grows, and tested stations. For any other query, suggestions may be worthless.
 #[derive(Drop)]
 pub struct Searcher {
+    // The numbers of the last book.
+    grid: Option<SharedGrid>,
     engine: Option<Engine>,
     // The current search for a shorter log, and between two of these searches the engine of the last one.
     shortening: Option<Shortening>,
@@ -41,7 +44,13 @@ impl Searcher {
     /// Returns a searcher that knows nothing. The seed breaks ties in the order of decisions, so searchers with different seeds search
     /// differently; seed 0 breaks ties by the variables' order.
     pub fn new(seed: u64) -> Searcher {
+        Searcher::of_grid(None, seed)
+    }
+
+    /// Returns what `new` returns, with the numbers of a book if they are known. They aren't made again for queries about that book.
+    pub fn of_grid(grid: Option<SharedGrid>, seed: u64) -> Searcher {
         Searcher {
+            grid,
             engine: None,
             shortening: None,
             group: None,
@@ -260,6 +269,19 @@ impl Searcher {
             }
         }
         self.group = None;
-        Engine::new(alloc, Grid::of(alloc, book)?, Purpose::Answers, self.seed)
+        let grid = self.take_grid(alloc, book)?;
+        self.grid = Some(Arc::try_clone(&grid)?);
+        Engine::new(alloc, grid, Purpose::Answers, self.seed)
+    }
+
+    // Returns the known numbers if they may be the book's; otherwise makes them.
+    fn take_grid(&mut self, alloc: Global, book: &Book) -> Result<SharedGrid, NoMemory> {
+        if let Some(grid) = self.grid.take() {
+            if grid.may_be_of(book) {
+                return Ok(grid);
+            }
+        }
+        let grid = Arc::new(alloc, Grid::of(alloc, book)?)?;
+        Ok(grid)
     }
 }

@@ -10,8 +10,9 @@ use crate::policy::{
 };
 use crate::query::QueryProgress;
 use crate::suggestion::Disproof;
-use search_base::grid::Grid;
+use search_base::grid::SharedGrid;
 use std::alloc::{AllocError as NoMemory, Global};
+use std::sync::Arc;
 
 /// A search for a disproof of a tested station with fewer lines than the known one.
 #[derive(Drop)]
@@ -104,7 +105,7 @@ impl Shortening {
         self.searches = self.searches.saturating_sub(1);
         self.left = self.budget.saturating_mul(BUDGETS_OF_SHORTER_LOG);
         let seed = self.searches as u64 + 1;
-        self.engine = crowd_engine(alloc, self.engine.grid.copy(alloc)?, seed)?;
+        self.engine = crowd_engine(alloc, &self.engine.grid, seed)?;
         self.engine
             .begin_one_test(alloc, &self.stations, self.tested)?;
         Ok(false)
@@ -114,20 +115,20 @@ impl Shortening {
 // Returns the crowd's engine if it knows most of these stations; otherwise a new engine over the same book.
 fn engine_for(
     alloc: Global,
-    grid: &Grid,
+    grid: &SharedGrid,
     group: Option<Engine>,
     stations: &[u32],
     tested: u32,
 ) -> Result<Engine, NoMemory> {
     let Some(engine) = group else {
-        return crowd_engine(alloc, grid.copy(alloc)?, 0);
+        return crowd_engine(alloc, grid, 0);
     };
     if engine.is_mostly_on_air(stations, tested, GROUP_STATIONS_TO_ONE_NEW) {
         return Ok(engine);
     }
-    crowd_engine(alloc, engine.grid, 0)
+    crowd_engine(alloc, grid, 0)
 }
 
-fn crowd_engine(alloc: Global, grid: Grid, seed: u64) -> Result<Engine, NoMemory> {
-    Engine::new(alloc, grid, Purpose::ShorterLog, seed)
+fn crowd_engine(alloc: Global, grid: &SharedGrid, seed: u64) -> Result<Engine, NoMemory> {
+    Engine::new(alloc, Arc::try_clone(grid)?, Purpose::ShorterLog, seed)
 }

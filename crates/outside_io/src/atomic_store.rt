@@ -64,17 +64,19 @@ fn write_each<R: Files>(
     Ok(())
 }
 
-// Writes a text: to a new file beside its place if the place is free or a plain file, and otherwise to the place itself.
+// Writes a text: to a new file beside its place if the place is free or a plain file, and otherwise to the place itself. If the
+// system does not say what is there, nothing is written.
 fn write_one<R: Files>(files: &R, alloc: Global, text: &NewFile<'_>) -> Result<TempFile, StoreErr> {
     match fs::symlink_metadata(files, text.name) {
         Ok(old) if old.is_file() => write_temp(files, alloc, text, Some(old)),
-        Err(error) if error.kind() == io::ErrorKind::NotFound => {
-            write_temp(files, alloc, text, None)
-        }
-        _ => {
+        Ok(_) => {
             write_through(files, text)?;
             Ok(None)
         }
+        Err(error) if error.kind() == io::ErrorKind::NotFound => {
+            write_temp(files, alloc, text, None)
+        }
+        Err(_) => Err(StoreErr::Failed),
     }
 }
 

@@ -1,11 +1,11 @@
-//! Racers that share a cache of answers among many auctions. A racer first tries the quick fits, which answer most
-//! queries faster than the cache. Then it asks the cache. Then it searches, and puts what it found into the cache.
-//! The cache's lock is held while an entry is looked up, but not while it is checked. So a check does not block other
-//! racers.
+//! Racers that share a cache of answers among many auctions. A racer asks the cache after its quick fits, which answer
+//! most queries faster than the cache. Then it searches, and puts what it found into the cache. The cache's lock is
+//! held while an entry is looked up, but not while it is checked. So a check does not block other racers.
 
 ghost use Rattle.std.specs.Prelude.{◌≡◌, IfOk, IfSome, map};
-ghost use Rattle.cert_types.specs.Query.{AttemptIs, IsQuery};
+ghost use Rattle.cert_types.specs.Query.{IsQuery};
 ghost use Rattle.cert_types.specs.Valid.{IsValid};
+ghost use Rattle.solver_gate.specs.Racer.{worker_of};
 ghost use Rattle.auction_core.specs.Backed.{IsBacked};
 ghost use Rattle.auction_core.specs.Postings.{ContinuesIn};
 ghost use Rattle.auction_core.specs.Setup.{IsOfAuction};
@@ -14,6 +14,7 @@ ghost use Rattle.auction_core.specs.State.{opening};
 use crate::run::run_with;
 use auction_core::record::Record;
 use batch_cache::cache::Cache;
+use cdcl_prove::earlier_answers::EarlierAnswers;
 use cert_types::answer::{Answer, CertifyWhy};
 use cert_types::certify::certify_query;
 use cert_types::poll::{Attempt, Poll};
@@ -22,75 +23,73 @@ use pack_defs::book::Book;
 use pack_defs::order::Order;
 use pack_defs::scenario::Scenario;
 use pack_defs::worker::Worker;
-use quick_fits::quick_fits::QuickFits;
+use search_base::grid::{Grid, SharedGrid};
 use solver_gate::gate::Gate;
 use solver_gate::racer::{Racer, RacerKind};
 use std::alloc::{AllocError as NoMemory, Global};
-use std::sync::{Mutex, Wait};
+use std::sync::{Arc, Mutex, Wait};
 use std::thread::Threads;
 
-/// A worker's racer, with quick fits and a cache before it. A quick fit is not put into the cache. Finding it again
-/// costs less than a look-up, and it would replace the result of a search.
-///
-/// The cache suggests an entry, which is then checked outside the lock. Only if it is rejected, the cache is asked
-/// for an answer: it is locked while it looks through all entries and checks each.
+/// What the auctions of a batch share: a cache of answers, and the numbers of the last book.
 #[derive(Drop)]
-pub struct Cached<'a, W: Wait, R: Racer> {
+pub struct Shared {
+    cache: Mutex<Cache>,
+    grid: Mutex<Option<SharedGrid>>,
+}
+
+impl Shared {
+    /// Shares this cache.
+    pub fn new(cache: Cache) -> Shared {
+        Shared {
+            cache: Mutex::new(cache),
+            grid: Mutex::new(None),
+        }
+    }
+
+    // Returns the numbers of a book. They are made only if the last book was another one.
+    fn grid_of<W: Wait>(&self, rt: &W, alloc: Global, book: &Book) -> Result<SharedGrid, NoMemory> {
+        let mut kept = self.grid.lock(rt);
+        if let Some(grid) = &*kept {
+            if grid.is_of(book) {
+                return Ok(Arc::try_clone(grid)?);
+            }
+        }
+        let grid = Arc::new(alloc, Grid::of(alloc, book)?)?;
+        *kept = Some(Arc::try_clone(&grid)?);
+        Ok(grid)
+    }
+}
+
+/// The answers of a cache that many auctions share, for one worker. A quick fit is not put into the cache. Finding it again costs less
+/// than a look-up, and it would replace the result of a search.
+///
+/// The cache suggests an entry, which is then checked outside the lock. Only if it is rejected, the cache is asked for an answer: it is
+/// locked while it looks through all entries and checks each.
+#[derive(Drop)]
+struct SharedAnswers<'a, W: Wait> {
     rt: &'a W,
     // The top channel of the cache's entries.
     top: u8,
     cache: &'a Mutex<Cache>,
-    /// The worker whose racer this is.
-    pub worker: Worker,
-    quick_fits: QuickFits,
-    racer: R,
-    ghost own: { R.worker racer ≡ worker },
+    worker: Worker,
 }
 
-impl<'a, W: Wait, R: Racer> Cached<'a, W, R> {
-    /// Returns the racer of a worker that asks the cache first, under this top channel. Allocates nothing.
-    pub fn make(
-        rt: &'a W,
-        alloc: Global,
-        top: u8,
-        cache: &'a Mutex<Cache>,
-        worker: &Worker,
-        racer: R,
-    ) -> Cached<'a, W, R>
-        requires { R.worker racer ≡ worker.now }
-        ensures { result.worker ≡ worker.now }
-    {
-        Cached {
-            rt,
-            top,
-            cache,
-            worker: *worker,
-            quick_fits: QuickFits::new(alloc),
-            racer,
-        }
+impl<W: Wait> EarlierAnswers for SharedAnswers<'_, W> {
+    ghost worker = { λ answers. answers.worker };
+
+    fn find(&mut self, alloc: Global, book: &Book, task: &Task) -> Option<Answer> {
+        self.checked_suggestion_of(alloc, book, task)
     }
 
-    // Returns the cache's answer, or else what the racer returns, which is put into the cache.
-    fn cached_or_attempted<P: Poll>(
-        &mut self,
-        alloc: Global,
-        book: &Book,
-        task: &Task,
-        poll: &mut P,
-    ) -> Result<Attempt, NoMemory>
-        requires { IsQuery book.now task.now }
-        ensures said { IfOk result (λ attempt. AttemptIs book.now task.now self.new.worker (P.last poll.new) attempt) }
-        ensures worker { self.new.worker ≡ self.old.worker }
-        ensures goes { P.goes poll.old poll.new }
-    {
-        if let Some(answer) = self.checked_suggestion_of(alloc, book, task) {
-            return Ok(Attempt::Said(answer));
+    fn add(&mut self, alloc: Global, task: &Task, attempt: &Attempt) {
+        if let Attempt::Said(answer) = attempt {
+            let mut cache = self.cache.lock(self.rt);
+            let _ = cache.put(alloc, self.top, task, answer);
         }
-        let attempt = self.racer.attempt(alloc, book, task, poll)?;
-        self.put_answer(alloc, task, &attempt);
-        Ok(attempt)
     }
+}
 
+impl<W: Wait> SharedAnswers<'_, W> {
     // Returns what the cache suggests, if the check accepts it. If memory runs out, returns `None`, and the racer
     // searches.
     fn checked_suggestion_of(&self, alloc: Global, book: &Book, task: &Task) -> Option<Answer>
@@ -141,14 +140,6 @@ impl<'a, W: Wait, R: Racer> Cached<'a, W, R> {
         let mut cache = self.cache.lock(self.rt);
         answer_in(alloc, &mut cache, self.top, book, task, &self.worker)
     }
-
-    // Puts an attempt's answer into the cache. If memory runs out, the answer is not kept, but is still used.
-    fn put_answer(&self, alloc: Global, task: &Task, attempt: &Attempt) {
-        if let Attempt::Said(answer) = attempt {
-            let mut cache = self.cache.lock(self.rt);
-            let _ = cache.put(alloc, self.top, task, answer);
-        }
-    }
 }
 
 // Returns the cache's answer, or `None` if there is none or memory runs out.
@@ -169,8 +160,43 @@ fn answer_in(
     }
 }
 
-impl<W: Wait, R: Racer> Racer for Cached<'_, W, R> {
-    ghost worker = { λ cached. cached.worker };
+/// A worker's solver that asks a shared cache after its quick fits.
+#[derive(Drop)]
+pub struct Cached<'a, W: Wait> {
+    /// The solver, by the kind of the worker.
+    pub solver: RacerKind,
+    answers: SharedAnswers<'a, W>,
+    ghost same: { answers.worker ≡ worker_of solver },
+}
+
+impl<'a, W: Wait> Cached<'a, W> {
+    /// Returns the solver of a worker for queries about a book, which asks the cache's entries under the book's top channel.
+    ///
+    /// # Errors
+    /// Fails only if memory runs out.
+    pub fn make(
+        rt: &'a W,
+        alloc: Global,
+        book: &Book,
+        shared: &'a Shared,
+        worker: &Worker,
+    ) -> Result<Cached<'a, W>, NoMemory>
+        ensures { IfOk result (λ cached. worker_of cached.solver ≡ worker.now) }
+    {
+        let grid = shared.grid_of(rt, alloc, book)?;
+        let solver = RacerKind::of_grid(alloc, worker, Some(grid))?;
+        let answers = SharedAnswers {
+            rt,
+            top: book.top(),
+            cache: &shared.cache,
+            worker: *worker,
+        };
+        Ok(Cached { solver, answers })
+    }
+}
+
+impl<W: Wait> Racer for Cached<'_, W> {
+    ghost worker = { λ cached. worker_of cached.solver };
 
     fn attempt<P: Poll>(
         &mut self,
@@ -179,30 +205,24 @@ impl<W: Wait, R: Racer> Racer for Cached<'_, W, R> {
         task: &Task,
         poll: &mut P,
     ) -> Result<Attempt, NoMemory> {
-        if let Some(fit) = self.quick_fits.quick_fit(alloc, book, task)? {
-            return Ok(Attempt::Said(Answer::Fit(fit)));
-        }
-        let attempt = self.cached_or_attempted(alloc, book, task, poll)?;
-        self.quick_fits.keep_attempted_fit(alloc, task, &attempt);
-        Ok(attempt)
+        self.solver
+            .attempt_after(alloc, book, task, &mut self.answers, poll)
     }
 }
 
-// Returns a racer for each worker, in order: a solver of its kind that may write long proofs, with the cache before
-// it.
+// Returns the solvers of the workers, in order, which ask the cache.
 fn cached_racers<'a, W: Wait>(
     rt: &'a W,
     alloc: Global,
-    top: u8,
+    book: &Book,
     workers: &[Worker],
-    cache: &'a Mutex<Cache>,
-) -> Result<Vec<Cached<'a, W, RacerKind>>, NoMemory>
-    ensures { IfOk result (λ racers. map (λ cached. cached.worker) racers.items ≡ workers.now) }
+    shared: &'a Shared,
+) -> Result<Vec<Cached<'a, W>>, NoMemory>
+    ensures { IfOk result (λ racers. map (λ cached. worker_of cached.solver) racers.items ≡ workers.now) }
 {
     let mut racers = Vec::new(alloc);
     for worker in workers {
-        let racer = RacerKind::for_worker(alloc, worker)?;
-        racers.push(Cached::make(rt, alloc, top, cache, worker, racer))?;
+        racers.push(Cached::make(rt, alloc, book, shared, worker)?)?;
     }
     Ok(racers)
 }
@@ -218,13 +238,13 @@ pub fn run_cached<G: Gate + Sync, W: Threads + Wait + Sync>(
     alloc: Global,
     sc: &Scenario,
     book: &Book,
-    cache: &Mutex<Cache>,
+    shared: &Shared,
     gate: &G,
 ) -> Result<Record, NoMemory>
     requires { IsOfAuction sc.now book.now }
     ensures backed { IfOk result (IsBacked sc.now book.now Order.ByVolume) }
     ensures continues { IfOk result (ContinuesIn (opening sc.now book.now Order.ByVolume)) }
 {
-    let racers = cached_racers(rt, alloc, sc.top, sc.workers.as_slice(), cache)?;
+    let racers = cached_racers(rt, alloc, book, sc.workers.as_slice(), shared)?;
     run_with(rt, alloc, sc, book, racers, gate)
 }

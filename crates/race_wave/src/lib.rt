@@ -1,7 +1,7 @@
 //! Runs auctions: the solvers of the workers race for each query.
 //!
-//! The crate uses `answer_board`, the solvers behind `solver_gate`, `batch_cache` and `quick_fits`. `commands` calls
-//! it; no check knows of it.
+//! The crate uses `answer_board`, the solvers behind `solver_gate`, and `batch_cache`. `commands` calls it; no check
+//! knows of it.
 //!
 //! Modules, in reading order:
 //!
@@ -9,7 +9,7 @@
 //! - `wave`: the workers race on a board.
 //! - `zip_runners`, `runner`, `unzip_runners`: pair passes with racers, and separate them again.
 //! - `serial`: the workers take one turn after another on one thread.
-//! - `cached`: a racer that asks a cache before it searches.
+//! - `cached`: a solver that asks a cache before it searches.
 //! - `board_poll`, `watching`: the poll of a worker on a board.
 //! - `serial_poll`: the poll without a race.
 #![tactic(auto)]

@@ -28,20 +28,23 @@ use pack_defs::order::Order;
 use pack_defs::owners::Owners;
 use pack_defs::scenario::Scenario;
 use pack_defs::worker::Worker;
+use search_base::grid::Grid;
 use solver_gate::gate::Gate;
 use solver_gate::racer::{Racer, RacerKind};
 use std::alloc::{AllocError as NoMemory, Global};
-use std::sync::Wait;
+use std::sync::{Arc, Wait};
 use std::thread::Threads;
 
-/// Returns a racer for each worker, in order: a solver of its kind, with its budget and its seed. Fails only if
-/// memory runs out.
-pub fn racers_of(alloc: Global, workers: &[Worker]) -> Result<Vec<RacerKind>, NoMemory>
+/// Returns a racer for each worker, in order: a solver of its kind, with its budget and its seed. The solvers share the
+/// numbers of the book. Fails only if memory runs out.
+pub fn racers_of(alloc: Global, workers: &[Worker], book: &Book) -> Result<Vec<RacerKind>, NoMemory>
     ensures { IfOk result (λ racers. map worker_of racers.items ≡ workers.now) }
 {
+    let grid = Arc::new(alloc, Grid::of(alloc, book)?)?;
     let mut racers = Vec::new(alloc);
     for worker in workers {
-        racers.push(RacerKind::for_worker(alloc, worker)?)?;
+        let shared = Arc::try_clone(&grid)?;
+        racers.push(RacerKind::of_grid(alloc, worker, Some(shared))?)?;
     }
     Ok(racers)
 }
@@ -317,7 +320,7 @@ pub fn go_on<G: Gate + Sync, W: Threads + Wait + Sync>(
     ensures backed { IfOk result (IsBacked scenario book.now auction.state.order) }
     ensures continues { IfOk result (ContinuesIn auction.state) }
 {
-    let racers = racers_of(alloc, auction.workers())?;
+    let racers = racers_of(alloc, auction.workers(), book)?;
     finish_with(rt, alloc, auction, scenario, book, racers, gate)
 }
 
@@ -334,7 +337,7 @@ pub fn run_auction<G: Gate + Sync, W: Threads + Wait + Sync>(
     ensures backed { IfOk result (IsBacked sc.now book.now Order.ByVolume) }
     ensures continues { IfOk result (ContinuesIn (opening sc.now book.now Order.ByVolume)) }
 {
-    let racers = racers_of(alloc, sc.workers.as_slice())?;
+    let racers = racers_of(alloc, sc.workers.as_slice(), book)?;
     run_with(rt, alloc, sc, book, racers, gate)
 }
 

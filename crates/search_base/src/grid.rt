@@ -6,6 +6,10 @@ use crate::checked_access::{filled, read, saturating_u32, slice_between, write};
 use pack_defs::book::Book;
 use std::alloc::{AllocError as NoMemory, Global};
 use std::ops::Range;
+use std::sync::Arc;
+
+/// The numbers of a book, made once for several searchers.
+pub type SharedGrid = Arc<Grid, Global>;
 
 /// The places of stations and the variables, both from 0 and in the order of the book. The rivals are listed once, in one flat list.
 #[derive(Drop)]
@@ -22,7 +26,14 @@ pub struct Grid {
     rivals: Vec<u32>,
     top: u8,
     pairs: usize,
+    // The book's digest.
+    digest: u64,
 }
+
+// The constants of FNV-1a for 64 bits (Fowler, Noll and Vo).
+const FNV_START: u64 = 0xcbf2_9ce4_8422_2325;
+
+const FNV_FACTOR: u64 = 0x0000_0100_0000_01b3;
 
 // Two variables that interfere.
 #[derive(Clone, Copy)]
@@ -35,6 +46,7 @@ impl Grid {
     /// Numbers the stations, channels and pairs of a book.
     pub fn of(alloc: Global, book: &Book) -> Result<Grid, NoMemory> {
         let mut grid = Grid::empty(alloc, book.top(), book.pairs().len());
+        grid.digest = digest_of(book);
         for place in 0..book.len() {
             grid.add_station(place, book)?;
         }
@@ -43,20 +55,6 @@ impl Grid {
         let couples = grid.variable_pairs(alloc, book)?;
         grid.add_rivals(alloc, &couples)?;
         Ok(grid)
-    }
-
-    /// Copies the numbers.
-    pub fn copy(&self, alloc: Global) -> Result<Grid, NoMemory> {
-        Ok(Grid {
-            stations: Vec::from_slice(alloc, &self.stations)?,
-            firsts: Vec::from_slice(alloc, &self.firsts)?,
-            owners: Vec::from_slice(alloc, &self.owners)?,
-            channels: Vec::from_slice(alloc, &self.channels)?,
-            begins: Vec::from_slice(alloc, &self.begins)?,
-            rivals: Vec::from_slice(alloc, &self.rivals)?,
-            top: self.top,
-            pairs: self.pairs,
-        })
     }
 
     fn empty(alloc: Global, top: u8, pairs: usize) -> Grid {
@@ -69,6 +67,7 @@ impl Grid {
             rivals: Vec::new(alloc),
             top,
             pairs,
+            digest: 0,
         }
     }
 
@@ -78,6 +77,11 @@ impl Grid {
         self.stations.len() == book.len() as usize
             && self.top == book.top()
             && self.pairs == book.pairs().len()
+    }
+
+    /// Checks whether these are the numbers of the book, by its digest. Another book has the same digest by chance alone.
+    pub fn is_of(&self, book: &Book) -> bool {
+        self.may_be_of(book) && self.digest == digest_of(book)
     }
 
     /// Returns the number of stations.
@@ -208,4 +212,25 @@ fn count_one(counts: &mut [u32], at: u32) -> u32 {
     let count = read(counts, at, 0);
     write(counts, at, count.saturating_add(1));
     count
+}
+
+// Returns a digest of a book's stations, channels and pairs, by the function FNV-1a over whole numbers in place of bytes.
+fn digest_of(book: &Book) -> u64 {
+    let mut digest = FNV_START;
+    for place in 0..book.len() {
+        let station = book.facility(place);
+        digest = mixed(digest, station as u64);
+        for channel in book.domain(station) {
+            digest = mixed(digest, *channel as u64);
+        }
+    }
+    for pair in book.pairs() {
+        digest = mixed(digest, (pair.f as u64) << 32 | pair.g as u64);
+        digest = mixed(digest, (pair.a as u64) << 8 | pair.b as u64);
+    }
+    digest
+}
+
+fn mixed(digest: u64, number: u64) -> u64 {
+    (digest ^ number).wrapping_mul(FNV_FACTOR)
 }

@@ -2,54 +2,48 @@
 //! neither tried nor kept.
 
 use crate::samples::books::three_stations;
-use crate::samples::workers::learner;
+use crate::samples::workers::{learner, walker};
 use batch_cache::cache::Cache;
 use cert_types::answer::Answer;
-use cert_types::poll::{Attempt, Poll};
+use cert_types::poll::Attempt;
 use cert_types::query::is_query;
 use cert_types::task::Task;
 use pack_defs::book::Book;
 use pack_defs::channel_map::ChannelMap;
 use pack_defs::items::Items;
 use pack_defs::worker::Worker;
-use race_wave::cached::Cached;
+use race_wave::cached::{Cached, Shared};
 use race_wave::serial_poll::SerialPoll;
 use solver_gate::racer::{Racer, RacerKind};
 use std::alloc::{AllocError as NoMemory, Global};
-use std::sync::atomic::{AtomicU64, Ordering};
-use std::sync::{Mutex, Wait};
+use std::sync::Wait;
 use std::test::Fail;
 
 // A station on a channel.
 type Entry = (u32, u8);
 
-// The expected answer: a fit, a fit that changes this many channels of the last map, or a refutation.
+// The expected answer: a fit, one that changes this many channels of the last map, one with this station on this channel, or a
+// refutation.
 #[derive(Clone, Copy)]
 enum Want {
     Fit,
     Changes(usize),
+    Places(u32, u8),
     Unfit,
 }
 
-// A solver that counts its attempts.
-#[derive(Drop)]
-struct Counted<'a> {
-    solver: RacerKind,
-    attempts: &'a AtomicU64,
-}
-
-impl Racer for Counted<'_> {
-    ghost worker = { λ counted. worker_of counted.solver };
-
-    fn attempt<P: Poll>(
-        &mut self,
-        alloc: Global,
-        book: &Book,
-        task: &Task,
-        poll: &mut P,
-    ) -> Result<Attempt, NoMemory> {
-        self.attempts.fetch_add(1, Ordering::SeqCst);
-        self.solver.attempt(alloc, book, task, poll)
+// Returns how many searches the solver has begun. A quick fit and an answer of the cache begin none.
+fn searches_of(solver: &RacerKind) -> u64 {
+    match solver {
+        RacerKind::Cdcl(solver) => {
+            let counts = solver.search_counts();
+            counts
+                .fits
+                .saturating_add(counts.refuted)
+                .saturating_add(counts.spent)
+                .saturating_add(counts.left)
+        }
+        RacerKind::Walk(_) => 0,
     }
 }
 
@@ -110,18 +104,19 @@ fn is_wanted(said: &Attempt, want: Want) -> bool {
     }
 }
 
-// Checks whether a fit of this size is expected.
+// Checks whether this fit is expected.
 fn is_fit(map: &ChannelMap, want: Want) -> bool {
     match want {
         Want::Fit => true,
         Want::Changes(count) => map.entries().len() == count,
+        Want::Places(station, channel) => map.get(station) == Some(channel),
         Want::Unfit => false,
     }
 }
 
 // Checks the answers of a solver with ample budget and a cache of these maps. Each row has a set, a last map, the expected answer, and the
-// number of attempts up to then.
-fn attempts<W: Wait>(
+// number of searches up to then.
+fn are_answered<W: Wait>(
     rt: &W,
     alloc: Global,
     worker: &Worker,
@@ -129,17 +124,11 @@ fn attempts<W: Wait>(
     rows: &[(&[u32], &[Entry], Want, u64)],
 ) -> Result<bool, NoMemory> {
     let book = three_stations(alloc)?;
-    let cache = Mutex::new(cache_of(alloc, kept)?);
-    let attempts = AtomicU64::new(0);
-    let solver = RacerKind::for_worker(alloc, worker)?;
-    let counted = Counted {
-        solver,
-        attempts: &attempts,
-    };
-    let mut racer = Cached::make(rt, alloc, 15, &cache, worker, counted);
+    let shared = Shared::new(cache_of(alloc, kept)?);
+    let mut racer = Cached::make(rt, alloc, &book, &shared, worker)?;
     for (set, last, want, count) in rows {
         let said = says(alloc, &mut racer, &book, set, last, *want)?;
-        if !said || attempts.load(Ordering::SeqCst) != *count {
+        if !said || searches_of(&racer.solver) != *count {
             return Ok(false);
         }
     }
@@ -158,7 +147,7 @@ fn cached_answers_are_not_tried(rt: HostRuntime) -> Result<(), Fail> {
         (&[1, 2, 3], &[], Want::Unfit, 2),
         (&[1, 3], &[], Want::Fit, 3),
     ];
-    assert!(rt; attempts(&rt, rt.alloc(), &learner(1000), &[], rows)?);
+    assert!(rt; are_answered(&rt, rt.alloc(), &learner(1000), &[], rows)?);
     let kept: &[(&[u32], &[Entry])] = &[
         (&[1, 2], &[(1, 14), (2, 15)]),
         (&[1, 2, 3], &[(1, 14), (2, 14), (3, 14)]),
@@ -170,7 +159,7 @@ fn cached_answers_are_not_tried(rt: HostRuntime) -> Result<(), Fail> {
         (&[1, 2, 3], &[], Want::Unfit, 2),
         (&[1, 2, 3], &[], Want::Unfit, 2),
     ];
-    assert!(rt; attempts(&rt, rt.alloc(), &learner(1000), kept, passing_over)?);
+    assert!(rt; are_answered(&rt, rt.alloc(), &learner(1000), kept, passing_over)?);
     Ok(())
 }
 
@@ -186,6 +175,25 @@ fn quick_fits_are_neither_tried_nor_cached(rt: HostRuntime) -> Result<(), Fail> 
         (&[1, 3], &[], Want::Fit, 1),
         (&[1, 3], &[], Want::Fit, 1),
     ];
-    assert!(rt; attempts(&rt, rt.alloc(), &learner(1000), kept, rows)?);
+    assert!(rt; are_answered(&rt, rt.alloc(), &learner(1000), kept, rows)?);
+    Ok(())
+}
+
+// A walker asks the cache too: it gives the map that is kept, whichever of the two that is. What it finds by itself is kept.
+#[test]
+fn a_walker_asks_the_cache(rt: HostRuntime) -> Result<(), Fail> {
+    let alloc = rt.alloc();
+    let book = three_stations(alloc)?;
+    for channel in [14u8, 15] {
+        let other = 29 - channel;
+        let kept: &[(&[u32], &[Entry])] = &[(&[1, 2], &[(1, channel), (2, other)])];
+        let shared = Shared::new(cache_of(alloc, kept)?);
+        let mut walking = Cached::make(&rt, alloc, &book, &shared, &walker(1000))?;
+        assert!(rt; says(alloc, &mut walking, &book, &[1, 2], &[], Want::Places(1, channel))?);
+        assert!(rt; says(alloc, &mut walking, &book, &[1, 3], &[], Want::Fit)?);
+        let mut learning = Cached::make(&rt, alloc, &book, &shared, &learner(1000))?;
+        assert!(rt; says(alloc, &mut learning, &book, &[1, 3], &[], Want::Fit)?);
+        assert_eq!(rt; searches_of(&learning.solver), 0);
+    }
     Ok(())
 }

@@ -81,7 +81,7 @@ fn tens_of_four(alloc: Global, sc: &Scenario) -> Option<Book> {
 
 // Runs the auction on this thread alone.
 fn run_by_turns(alloc: Global, sc: &Scenario, book: &Book) -> Result<Record, NoMemory> {
-    let mut racers = racers_of(alloc, sc.workers.as_slice())?;
+    let mut racers = racers_of(alloc, sc.workers.as_slice(), book)?;
     let mut auction = Auction::start(alloc, sc, book, Order::ByVolume)?;
     while !auction.ended() {
         serial_turn(alloc, &mut auction, &mut racers)?;

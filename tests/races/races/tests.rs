@@ -146,7 +146,7 @@ fn freezes_behind<W: Threads + Wait + Sync>(
 
 // Returns the auction after this many turns on this thread.
 fn turned(alloc: Global, sc: &Scenario, book: &Book, turns: u32) -> Result<Auction, NoMemory> {
-    let mut racers = racers_of(alloc, sc.workers.as_slice())?;
+    let mut racers = racers_of(alloc, sc.workers.as_slice(), book)?;
     let mut auction = Auction::start(alloc, sc, book, Order::ByVolume)?;
     for _turn in 0..turns {
         serial_turn(alloc, &mut auction, &mut racers)?;

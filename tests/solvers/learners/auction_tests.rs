@@ -2,7 +2,8 @@
 
 use crate::solvers::learners::samples::{ALWAYS, Said, attempted, by_chance, learner, packing};
 use crate::solvers::samples::task_of;
-use cdcl_prove::cdcl::{Cdcl, SearchCounts};
+use cdcl_prove::cdcl::Cdcl;
+use cdcl_prove::incremental::SearchCounts;
 use cert_types::query::is_query;
 use cert_types::task::Task;
 use pack_defs::book::Book;

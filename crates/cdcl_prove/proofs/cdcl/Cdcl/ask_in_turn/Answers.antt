@@ -1,6 +1,6 @@
--- A quick fit is a valid answer.
+-- What a quick fit found is valid.
 use Rattle.cert_types.specs.Valid.{answer_fault}
-use Rattle.race_wave.proofs.cached.CachedRacer.attempt.Goals as goal
+use Rattle.cdcl_prove.proofs.cdcl.Cdcl.ask_in_turn.Goals as goal
 
 pub returns-in-Some-clause-said : goal.returns-in-Some-clause-said
 unfolding answer_fault

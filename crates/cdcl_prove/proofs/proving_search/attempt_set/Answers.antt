@@ -3,7 +3,7 @@ use Rattle.pack_defs.specs.Lists.{is_ascending}
 use Rattle.cert_types.specs.Refutes.{is_subset}
 use Rattle.cert_types.proofs.QueryLaws.{query-parts}
 use Rattle.cert_types.proofs.Outsiders.{subset-itself}
-use Rattle.cdcl_prove.proofs.cdcl.attempt_set.Goals as goal
+use Rattle.cdcl_prove.proofs.proving_search.attempt_set.Goals as goal
 
 pub search_set-requires : goal.search_set-requires
 search_set-requires g c = subst (λ (xs : List ℕ). is_ascending xs ≡ true) (sym c.as_slice-set.ensures) (query-parts c.args.book.now c.args.task.now c.requires.query).rises
