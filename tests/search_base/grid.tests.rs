@@ -48,3 +48,28 @@ fn numbers_are_of_one_book(rt: HostRuntime) -> Result<(), Fail> {
     assert!(rt; !grid.is_of(&other));
     Ok(())
 }
+
+// Returns the book of these stations with their channels, of which no two interfere.
+fn apart(alloc: Global, stations: &[(u32, &[u8])]) -> Result<Book, NoMemory> {
+    let mut names = Vec::new(alloc);
+    let mut domains = Vec::new(alloc);
+    for (station, channels) in stations {
+        names.push(*station)?;
+        let channels = Items::from_vec(Vec::from_slice(alloc, *channels)?);
+        domains.push(Domain { station: *station, channels })?;
+    }
+    Book::build(alloc, 51, &names, &domains, &[])
+}
+
+// The digest tells a station's number from a channel's: both books give the numbers 1, 14, 15 and 16 in turn.
+#[test]
+fn numbers_tell_stations_from_channels(rt: HostRuntime) -> Result<(), Fail> {
+    let alloc = rt.alloc();
+    let book = apart(alloc, &[(1, &[14, 15]), (16, &[])])?;
+    let grid = Grid::of(alloc, &book)?;
+    assert!(rt; grid.is_of(&book));
+    let other = apart(alloc, &[(1, &[14]), (15, &[16])])?;
+    assert!(rt; grid.may_be_of(&other));
+    assert!(rt; !grid.is_of(&other));
+    Ok(())
+}

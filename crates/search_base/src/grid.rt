@@ -219,8 +219,10 @@ fn digest_of(book: &Book) -> u64 {
     let mut digest = FNV_START;
     for place in 0..book.len() {
         let station = book.facility(place);
+        let domain = book.domain(station);
         digest = mixed(digest, station as u64);
-        for channel in book.domain(station) {
+        digest = mixed(digest, domain.len() as u64);
+        for channel in domain {
             digest = mixed(digest, *channel as u64);
         }
     }
