@@ -184,10 +184,24 @@ impl<'a, W: Wait> Cached<'a, W> {
         ensures { IfOk result (λ cached. worker_of cached.solver ≡ worker.now) }
     {
         let grid = shared.grid_of(rt, alloc, book)?;
+        Cached::of_grid(rt, alloc, book.top(), grid, shared, worker)
+    }
+
+    // Returns the solver of a worker, which has a book's numbers already.
+    fn of_grid(
+        rt: &'a W,
+        alloc: Global,
+        top: u8,
+        grid: SharedGrid,
+        shared: &'a Shared,
+        worker: &Worker,
+    ) -> Result<Cached<'a, W>, NoMemory>
+        ensures { IfOk result (λ cached. worker_of cached.solver ≡ worker.now) }
+    {
         let solver = RacerKind::of_grid(alloc, worker, Some(grid))?;
         let answers = SharedAnswers {
             rt,
-            top: book.top(),
+            top,
             cache: &shared.cache,
             worker: *worker,
         };
@@ -220,9 +234,12 @@ fn cached_racers<'a, W: Wait>(
 ) -> Result<Vec<Cached<'a, W>>, NoMemory>
     ensures { IfOk result (λ racers. map (λ cached. worker_of cached.solver) racers.items ≡ workers.now) }
 {
+    let top = book.top();
+    let grid = shared.grid_of(rt, alloc, book)?;
     let mut racers = Vec::new(alloc);
     for worker in workers {
-        racers.push(Cached::make(rt, alloc, book, shared, worker)?)?;
+        let own = Arc::try_clone(&grid)?;
+        racers.push(Cached::of_grid(rt, alloc, top, own, shared, worker)?)?;
     }
     Ok(racers)
 }

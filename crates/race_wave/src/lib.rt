@@ -1,7 +1,7 @@
 //! Runs auctions: the solvers of the workers race for each query.
 //!
-//! The crate uses `answer_board`, the solvers behind `solver_gate`, and `batch_cache`. `commands` calls it; no check
-//! knows of it.
+//! The crate uses `answer_board`, the solvers behind `solver_gate`, `batch_cache`, and a book's numbers of
+//! `search_base`. `commands` calls it; no check knows of it.
 //!
 //! Modules, in reading order:
 //!
