@@ -32,8 +32,9 @@ pub(crate) const LITERALS_OF_SHORT_CLAUSE: u32 = 6;
 /// A search for a shorter log has this many times the worker's budget of conflicts.
 pub(crate) const BUDGETS_OF_SHORTER_LOG: u32 = 3;
 
-/// If no log is short enough then, one is searched for from nothing, over the stations of the shortest, up to this many times.
-pub(crate) const SEARCHES_FROM_NOTHING: u32 = 12;
+/// If no log is short enough then, one is searched for from nothing, over the stations of the shortest, up to this many times. Of three
+/// auctions, twelve decided one test more in one, and three fewer in another, in three times the time (`benchmarks/runs`).
+pub(crate) const SEARCHES_FROM_NOTHING: u32 = 4;
 
 /// The crowd's engine is used if at most one in this many of a log's stations is new to it. Lines learnt of other stations lead through
 /// those stations. With one engine for all crowds, the model left a quarter more lines of logs (`docs/DECISIONS.md`). The share was chosen
