@@ -3,21 +3,18 @@
 use crate::scenes::change::Change;
 use crate::scenes::scene::{RUN, Scene, first_untrue, outputs_match, verifies};
 use crate::scenes::stations::{
-    LIVE, ONE_LINE, THREE, THREE_PLAIN, TRANSCRIPT, TWO_PLAIN, VERIFY, VERIFY_LIVE,
+    LIVE, ONE_LINE, OWNERS, THREE, THREE_PLAIN, TRANSCRIPT, TWO_PLAIN, VERIFY, VERIFY_LIVE,
 };
 use std::alloc::{AllocError as NoMemory, Global};
 use std::sync::Wait;
 use std::test::Fail;
 use std::thread::Threads;
 
-// The answers of owners whose stations are worth 50, 70 and 10 cents, at prices of 100, 60 and 20.
-const SIX: &str = "0,1,stay\n1,1,stay\n0,2,stay\n0,3,stay\n1,3,stay\n2,3,stay\n";
-
 // The three stations without values, and the answers of their owners.
 const SAID: Scene<'static> = Scene {
     command: LIVE,
     stations: THREE_PLAIN,
-    owners: Some(SIX),
+    owners: Some(OWNERS),
     ..RUN
 };
 

@@ -27,6 +27,9 @@ pub const CLOCK: &str = "\"top\":15,\"opening\":100,\"decrements\":[40,40]";
 pub const THREE: &str =
     "{\"id\":1,\"volume\":1,\"value\":50},{\"id\":2,\"volume\":1,\"value\":70},{\"id\":3,\"volume\":1,\"value\":10}";
 
+/// The answers of owners whose stations are worth 50, 70 and 10 cents, at the prices of `CLOCK`.
+pub const OWNERS: &str = "0,1,stay\n1,1,stay\n0,2,stay\n0,3,stay\n1,3,stay\n2,3,stay\n";
+
 /// Two stations without values, which start on air.
 pub const TWO_PLAIN: &str = "{\"id\":1,\"volume\":1},{\"id\":2,\"volume\":1}";
 

@@ -20,18 +20,21 @@ from prefixes import Kept
 # The statuses of each command, except 2, which depends on the words, and 8: memory is ample.
 STATUSES = {
     "run": {0, 1, 3, 4, 5, 6, 7}, "live": {0, 1, 3, 4, 5, 6, 7}, "check": {0, 3, 5}, "verify": {0, 1, 3, 5, 9},
-    "verify-live": {0, 1, 3, 5, 9}, "resume": {0, 1, 3, 4, 5, 6, 7, 9}, "seek": {0, 1, 3, 4, 5, 6, 7}, "make": {0, 1, 4, 5},
-    "batch": {0, 1, 3, 4, 5, 11},
+    "verify-live": {0, 1, 3, 5, 9}, "show": {0, 1, 3, 4, 5, 9}, "show-live": {0, 1, 3, 4, 5, 9}, "resume": {0, 1, 3, 4, 5, 6, 7, 9},
+    "seek": {0, 1, 3, 4, 5, 6, 7}, "make": {0, 1, 4, 5}, "batch": {0, 1, 3, 4, 5, 11},
 }
 # The inputs of each command, in the order of their names, and the number of outputs after them. `make` has two numbers before its
 # outputs. The outputs of a batch are in its list.
 AUCTION = ("domains", "rows", "scenario")
 INPUTS = {
     "run": AUCTION, "live": (*AUCTION, "owners"), "check": AUCTION, "verify": (*AUCTION, "transcript"),
-    "verify-live": (*AUCTION, "owners", "transcript"), "resume": (*AUCTION, "prefix"), "seek": AUCTION, "make": (),
-    "batch": ("domains", "rows", "list"),
+    "verify-live": (*AUCTION, "owners", "transcript"), "show": (*AUCTION, "transcript"), "show-live": (*AUCTION, "owners", "transcript"),
+    "resume": (*AUCTION, "prefix"), "seek": AUCTION, "make": (), "batch": ("domains", "rows", "list"),
 }
-OUTPUTS = {"run": 3, "live": 3, "check": 0, "verify": 0, "verify-live": 0, "resume": 3, "seek": 1, "make": 3, "batch": 0}
+OUTPUTS = {
+    "run": 3, "live": 3, "check": 0, "verify": 0, "verify-live": 0, "show": 2, "show-live": 2, "resume": 3, "seek": 1, "make": 3,
+    "batch": 0,
+}
 LONGEST = 255
 SIZES = range(1, 4097)
 ROW = rb"line (?P<line>[1-9]\d*): "
@@ -186,10 +189,12 @@ def look_at_end(order, status, printed, after):
     need((status == 1) == (numbers[3] > 0), "the status isn't that of the undecided tests")
     if order.name == "make":
         need(numbers[0] == order.size, "another number of stations")
-    if order.name in ("run", "live", "resume"):
-        result, channels, transcript = (after[name] for name in order.outputs)
+    if order.name in ("run", "live", "show", "show-live", "resume"):
+        result, channels = (after[name] for name in order.outputs[:2])
         need(look_at_result(result) == numbers, "the summary isn't that of RESULT")
         need(CHANNELS.fullmatch(channels) and channels.count(b"\n") == numbers[1] + 1, "CHANNELS isn't of those on air")
+    if order.name in ("run", "live", "resume"):
+        transcript = after[order.outputs[2]]
         first = rb"transcript [12]\n" if order.name == "resume" else b"transcript 2\n"
         need(re.match(first, transcript) and transcript.endswith(b"\n"), "no transcript")
 

@@ -9,8 +9,8 @@ use std::sync::Wait;
 use std::test::Fail;
 use std::thread::Threads;
 
-// The transcript of the three stations with a worker whose budget is one line: the last test is undecided.
-const LEFT_OPEN: &str =
+/// The transcript of the three stations with a worker whose budget is one line: the last test is undecided.
+pub const LEFT_OPEN: &str =
     "transcript 1\nstart empty\nfit 1 1 1\nat 1 14\nfit 1 2 1\nat 2 14\nfit 1 3 1\nat 3 15\nfit 2 1 1\nat 1 15\nundecided 2 3 1\nlines 0 1\n13 -1 0 7 2 8 3 12 0\nend 5\n";
 
 // A refutation of the set of three stations.

@@ -37,6 +37,15 @@ const REFUSED: &[(&str, &str)] = &[
     ),
     ("repack,chek,d,r,s", CHEK),
     ("repack,help,chek", CHEK),
+    // Names that are similar to the word, the most similar last.
+    (
+        "repack,shwo,d,r,s,t,o,c",
+        "error: unrecognized subcommand 'shwo'\n\n  tip: some similar subcommands exist: 'show-live', 'show'\n",
+    ),
+    (
+        "repack,show-lve,d,r,s,w,t,o,c",
+        "error: unrecognized subcommand 'show-lve'\n\n  tip: some similar subcommands exist: 'show', 'show-live'\n",
+    ),
     ("repack,check,d,r,s,more", MORE),
     ("repack,run,d,r,s,o,c,t,more", MORE),
     (
@@ -98,6 +107,16 @@ const WRONG_COUNTS: &[(&str, &str)] = &[
     (
         "repack,verify-live,d,r,s,t",
         "error: the following required arguments were not provided:\n  <TRANSCRIPT>\n\n",
+    ),
+    ("repack,show,d,r,s,t,o,c,more", MORE),
+    (
+        "repack,show,d,r,s,t,o",
+        "error: the following required arguments were not provided:\n  <CHANNELS>\n\n",
+    ),
+    ("repack,show-live,d,r,s,w,t,o,c,more", MORE),
+    (
+        "repack,show-live,d,r,s,w,t,o",
+        "error: the following required arguments were not provided:\n  <CHANNELS>\n\n",
     ),
     ("repack,resume,d,r,s,p,o,c,t,more", MORE),
     (
@@ -226,6 +245,16 @@ const HELPS: &[(&str, &str, &str)] = &[
         "\nUsage: repack verify-live <DOMAINS> <ROWS> <SCENARIO> <OWNERS> <TRANSCRIPT>\n",
     ),
     (
+        "repack,show,--help",
+        "Checks a transcript and stores its result ",
+        "\nUsage: repack show <DOMAINS> <ROWS> <SCENARIO> <TRANSCRIPT> <RESULT> <CHANNELS>\n",
+    ),
+    (
+        "repack,help,show-live",
+        "Checks a live auction's transcript and stores ",
+        "\nUsage: repack show-live <DOMAINS> <ROWS> <SCENARIO> <OWNERS> <TRANSCRIPT> <RESULT> <CHANNELS>\n",
+    ),
+    (
         "repack,resume,--help",
         "Goes on with an auction ",
         "\nUsage: repack resume <DOMAINS> <ROWS> <SCENARIO> <PREFIX> <RESULT> <CHANNELS> <TRANSCRIPT>\n",
@@ -301,6 +330,15 @@ const ORDERS: &[(&str, &str)] = &[
         "command live verify,d,r,s,w,t",
     ),
     ("repack,verify,d,r,s,t", "command verify,d,r,s,t"),
+    ("repack,show,d,r,s,t,o,c", "command show,d,r,s,t,o,c"),
+    (
+        "repack,show-live,d,r,s,w,t,o,c",
+        "command live show,d,r,s,w,t,o,c",
+    ),
+    (
+        "repack,show,,-,5,--,-t,show,run",
+        "command show,,-,5,-t,show,run",
+    ),
     (
         "repack,resume,d,r,s,p,o,c,t",
         "command resume,d,r,s,p,o,c,t",

@@ -1,200 +1,155 @@
-//! Which of a command's file names is given twice.
+//! Which name of a file to store is given twice.
 
-use command_words::make_words::MakeArgs;
-use command_words::proof_words::{ExportArgs, ImportArgs};
-use command_words::run_words::{InputArgs, RunArgs, VerifyArgs};
+use crate::words::reading::is_given_twice;
+use std::alloc::{AllocError as NoMemory, Global};
+use std::test::Fail;
 
-// Returns the arguments of `run` with these names, in order, and this owners' file.
-fn run_args<'a>(owners: Option<&'a str>, names: [&'a str; 6]) -> RunArgs<'a> {
-    let [domains, rows, scenario, result, channels, transcript] = names;
-    RunArgs {
-        inputs: InputArgs {
-            domains,
-            rows,
-            scenario,
-            owners,
-        },
-        result,
-        channels,
-        transcript,
-    }
-}
-
-// Returns the index of the first row whose repeated name is not the expected one, with this owners' file.
+// Returns the first line whose name given twice is not the expected one.
 fn other_repeat<'a>(
-    owners: Option<&'a str>,
-    table: &[([&'a str; 6], Option<&'a str>)],
-) -> Option<usize> {
-    for (i, &(names, wanted)) in table.iter().enumerate() {
-        if run_args(owners, names).given_twice() != wanted {
-            return Some(i);
+    alloc: Global,
+    table: &[(&'a str, Option<&str>)],
+) -> Result<Option<&'a str>, NoMemory> {
+    for &(line, wanted) in table {
+        if !is_given_twice(alloc, line, wanted)? {
+            return Ok(Some(line));
         }
     }
-    None
+    Ok(None)
 }
 
-const RUN_NAMES: &[([&str; 6], Option<&str>)] = &[
-    (["d", "r", "s", "o", "c", "t"], None),
-    // Input names may be equal.
-    (["d", "d", "d", "o", "c", "t"], None),
+const RUN_NAMES: &[(&str, Option<&str>)] = &[
+    ("repack,run,d,r,s,o,c,t", None),
+    // Names to read may be equal.
+    ("repack,run,d,d,d,o,c,t", None),
     // Names with different bytes are different names.
-    (["d", "r", "s", "./d", "D", "d "], None),
-    (["d", "r", "s", "d", "c", "t"], Some("d")),
-    (["d", "r", "s", "s", "c", "t"], Some("s")),
-    (["d", "r", "s", "o", "o", "t"], Some("o")),
-    (["d", "r", "s", "o", "c", "o"], Some("o")),
-    (["d", "r", "s", "o", "c", "c"], Some("c")),
-    (["d", "r", "s", "o", "d", "t"], Some("d")),
-    (["d", "r", "s", "o", "c", "r"], Some("r")),
+    ("repack,run,d,r,s,./d,D,d ", None),
+    ("repack,run,d,r,s,d,c,t", Some("d")),
+    ("repack,run,d,r,s,s,c,t", Some("s")),
+    ("repack,run,d,r,s,o,o,t", Some("o")),
+    ("repack,run,d,r,s,o,c,o", Some("o")),
+    ("repack,run,d,r,s,o,c,c", Some("c")),
+    ("repack,run,d,r,s,o,d,t", Some("d")),
+    ("repack,run,d,r,s,o,c,r", Some("r")),
     // The first repeated name in the order of the arguments is reported.
-    (["d", "r", "s", "o", "r", "d"], Some("r")),
-    (["d", "r", "s", "o", "d", "o"], Some("o")),
-    (["d", "r", "s", "", "", ""], Some("")),
+    ("repack,run,d,r,s,o,r,d", Some("r")),
+    ("repack,run,d,r,s,o,d,o", Some("o")),
+    ("repack,run,d,r,s,,,", Some("")),
+    ("repack,live,d,r,w,w,o,c,t", None),
+    ("repack,live,d,r,s,w,w,c,t", Some("w")),
+    ("repack,live,d,r,s,w,o,w,t", Some("w")),
+    ("repack,live,d,r,s,w,o,c,w", Some("w")),
+    ("repack,live,d,r,s,w,o,w,o", Some("o")),
+    ("repack,live,d,r,s,w,o,c,s", Some("s")),
 ];
 
-const LIVE_NAMES: &[([&str; 6], Option<&str>)] = &[
-    (["d", "r", "w", "o", "c", "t"], None),
-    (["d", "r", "s", "w", "c", "t"], Some("w")),
-    (["d", "r", "s", "o", "w", "t"], Some("w")),
-    (["d", "r", "s", "o", "c", "w"], Some("w")),
-    (["d", "r", "s", "o", "w", "o"], Some("o")),
+const SHOW_NAMES: &[(&str, Option<&str>)] = &[
+    ("repack,show,d,r,s,t,o,c", None),
+    ("repack,show,d,d,d,d,./d,c", None),
+    ("repack,show,d,r,s,t,o,o", Some("o")),
+    ("repack,show,d,r,s,t,d,c", Some("d")),
+    ("repack,show,d,r,s,t,r,c", Some("r")),
+    ("repack,show,d,r,s,t,s,c", Some("s")),
+    ("repack,show,d,r,s,t,t,c", Some("t")),
+    ("repack,show,d,r,s,t,o,d", Some("d")),
+    ("repack,show,d,r,s,t,o,r", Some("r")),
+    ("repack,show,d,r,s,t,o,s", Some("s")),
+    ("repack,show,d,r,s,t,o,t", Some("t")),
+    ("repack,show,d,r,s,t,t,d", Some("t")),
+    ("repack,show-live,d,r,s,w,t,o,c", None),
+    ("repack,show-live,d,r,s,w,w,o,c", None),
+    ("repack,show-live,d,r,s,w,t,w,c", Some("w")),
+    ("repack,show-live,d,r,s,w,t,o,w", Some("w")),
+    ("repack,show-live,d,r,s,w,t,o,s", Some("s")),
+    ("repack,show-live,d,r,s,w,t,o,t", Some("t")),
 ];
 
-#[test]
-fn an_output_name_is_given_twice(rt: HostRuntime) {
-    assert_eq!(rt; other_repeat(None, RUN_NAMES), None);
-    assert_eq!(rt; other_repeat(Some("w"), RUN_NAMES), None);
-    assert_eq!(rt; other_repeat(Some("w"), LIVE_NAMES), None);
-}
+const RESUME_NAMES: &[(&str, Option<&str>)] = &[
+    ("repack,resume,d,r,s,p,o,c,t", None),
+    ("repack,resume,d,r,s,d,o,c,t", None),
+    ("repack,resume,d,r,s,p,p,c,t", Some("p")),
+    ("repack,resume,d,r,s,p,o,p,t", Some("p")),
+    ("repack,resume,d,r,s,p,o,c,p", Some("p")),
+    ("repack,resume,d,r,s,p,o,c,r", Some("r")),
+    ("repack,resume,d,r,s,p,o,c,o", Some("o")),
+];
 
-// Returns the arguments of `make` with these output names, in order.
-fn make_args<'a>(names: [&'a str; 3]) -> MakeArgs<'a> {
-    let [domains, rows, scenario] = names;
-    MakeArgs {
-        seed: 7,
-        size: 1,
-        outputs: InputArgs {
-            domains,
-            rows,
-            scenario,
-            owners: None,
-        },
-    }
-}
-
-// Returns the index of the first row of output names whose repeated name is not the expected one.
-fn other_generated_repeat(table: &[([&str; 3], Option<&str>)]) -> Option<usize> {
-    for (i, &(names, wanted)) in table.iter().enumerate() {
-        if make_args(names).given_twice() != wanted {
-            return Some(i);
-        }
-    }
-    None
-}
-
-const MADE_NAMES: &[([&str; 3], Option<&str>)] = &[
-    (["d", "r", "s"], None),
-    (["d", "./d", "D"], None),
-    (["7", "1", ""], None),
-    (["d", "d", "s"], Some("d")),
-    (["d", "r", "d"], Some("d")),
-    (["d", "r", "r"], Some("r")),
-    (["", "", ""], Some("")),
+const SEEK_NAMES: &[(&str, Option<&str>)] = &[
+    ("repack,seek,d,r,s,c", None),
+    ("repack,seek,d,d,d,c", None),
+    ("repack,seek,d,r,s,d", Some("d")),
+    ("repack,seek,d,r,s,r", Some("r")),
+    ("repack,seek,d,r,s,s", Some("s")),
 ];
 
 #[test]
-fn a_name_to_store_is_given_twice(rt: HostRuntime) {
-    assert_eq!(rt; other_generated_repeat(MADE_NAMES), None);
+fn a_name_that_an_auction_stores_is_given_twice(rt: HostRuntime) -> Result<(), Fail> {
+    assert_eq!(rt; other_repeat(rt.alloc(), RUN_NAMES)?, None);
+    assert_eq!(rt; other_repeat(rt.alloc(), SHOW_NAMES)?, None);
+    assert_eq!(rt; other_repeat(rt.alloc(), RESUME_NAMES)?, None);
+    assert_eq!(rt; other_repeat(rt.alloc(), SEEK_NAMES)?, None);
+    Ok(())
 }
 
-// Returns the arguments of `verify` with these names, in order.
-fn verify_args<'a>(names: [&'a str; 4]) -> VerifyArgs<'a> {
-    let [domains, rows, scenario, transcript] = names;
-    VerifyArgs {
-        inputs: InputArgs {
-            domains,
-            rows,
-            scenario,
-            owners: None,
-        },
-        transcript,
-    }
-}
+const MADE_NAMES: &[(&str, Option<&str>)] = &[
+    ("repack,make,7,1,d,r,s", None),
+    ("repack,make,7,1,d,./d,D", None),
+    // The seed and the size are not names.
+    ("repack,make,7,1,7,1,", None),
+    ("repack,make,7,1,d,d,s", Some("d")),
+    ("repack,make,7,1,d,r,d", Some("d")),
+    ("repack,make,7,1,d,r,r", Some("r")),
+    ("repack,make,7,1,,,", Some("")),
+];
 
-// Returns the index of the first row whose repeated name is not the expected one. A row has an auction's files and a formula's.
-fn other_exported_repeat(table: &[([&str; 4], &str, Option<&str>)]) -> Option<usize> {
-    for (i, &(names, formula, wanted)) in table.iter().enumerate() {
-        let args = ExportArgs {
-            shown: verify_args(names),
-            step: 1,
-            formula,
-        };
-        if args.given_twice() != wanted {
-            return Some(i);
-        }
-    }
-    None
-}
+const EXPORTED_NAMES: &[(&str, Option<&str>)] = &[
+    ("repack,export,d,r,s,t,1,c", None),
+    // The step is not a name, and names to read may be equal.
+    ("repack,export,d,r,s,t,1,1", None),
+    ("repack,export,d,d,d,d,1,./d", None),
+    ("repack,export,d,r,s,t,1,d", Some("d")),
+    ("repack,export,d,r,s,t,1,r", Some("r")),
+    ("repack,export,d,r,s,t,1,s", Some("s")),
+    ("repack,export,d,r,s,t,1,t", Some("t")),
+    ("repack,export,d,r,s,,1,", Some("")),
+];
 
-const EXPORTED_NAMES: &[([&str; 4], &str, Option<&str>)] = &[
-    (["d", "r", "s", "t"], "c", None),
-    // The step is not a name, and input names may be equal.
-    (["d", "r", "s", "t"], "1", None),
-    (["d", "d", "d", "d"], "./d", None),
-    (["d", "r", "s", "t"], "d", Some("d")),
-    (["d", "r", "s", "t"], "r", Some("r")),
-    (["d", "r", "s", "t"], "s", Some("s")),
-    (["d", "r", "s", "t"], "t", Some("t")),
-    (["d", "r", "s", ""], "", Some("")),
+const IMPORTED_NAMES: &[(&str, Option<&str>)] = &[
+    ("repack,import,d,r,s,t,1,l,o,n", None),
+    ("repack,import,d,r,s,t,1,l,1,n", None),
+    ("repack,import,d,d,d,d,1,d,o,./d", None),
+    ("repack,import,d,r,s,t,1,l,d,n", Some("d")),
+    ("repack,import,d,r,s,t,1,l,r,n", Some("r")),
+    ("repack,import,d,r,s,t,1,l,s,n", Some("s")),
+    ("repack,import,d,r,s,t,1,l,t,n", Some("t")),
+    ("repack,import,d,r,s,t,1,l,l,n", Some("l")),
+    ("repack,import,d,r,s,t,1,l,n,n", Some("n")),
+    ("repack,import,d,r,s,t,1,l,o,d", Some("d")),
+    ("repack,import,d,r,s,t,1,l,o,r", Some("r")),
+    ("repack,import,d,r,s,t,1,l,o,s", Some("s")),
+    ("repack,import,d,r,s,t,1,l,o,t", Some("t")),
+    ("repack,import,d,r,s,t,1,l,o,l", Some("l")),
+    ("repack,import,d,r,s,t,1,l,o,o", Some("o")),
+    ("repack,import,d,r,s,t,1,l,s,d", Some("s")),
 ];
 
 #[test]
-fn the_name_of_a_formula_is_given_twice(rt: HostRuntime) {
-    assert_eq!(rt; other_exported_repeat(EXPORTED_NAMES), None);
+fn a_number_is_no_name_given_twice(rt: HostRuntime) -> Result<(), Fail> {
+    assert_eq!(rt; other_repeat(rt.alloc(), MADE_NAMES)?, None);
+    assert_eq!(rt; other_repeat(rt.alloc(), EXPORTED_NAMES)?, None);
+    assert_eq!(rt; other_repeat(rt.alloc(), IMPORTED_NAMES)?, None);
+    Ok(())
 }
 
-// Returns the index of the first row whose repeated name is not the expected one. A row has an auction's files, a proof, a result
-// and a transcript.
-fn other_imported_repeat(table: &[([&str; 4], [&str; 3], Option<&str>)]) -> Option<usize> {
-    for (i, &(names, [proof, result, transcript], wanted)) in table.iter().enumerate() {
-        let args = ImportArgs {
-            shown: verify_args(names),
-            step: 1,
-            proof,
-            result,
-            transcript,
-        };
-        if args.given_twice() != wanted {
-            return Some(i);
-        }
-    }
-    None
-}
-
-const READ: [&str; 4] = ["d", "r", "s", "t"];
-
-const IMPORTED_NAMES: &[([&str; 4], [&str; 3], Option<&str>)] = &[
-    (READ, ["l", "o", "n"], None),
-    // The step is not a name, and input names may be equal.
-    (READ, ["l", "1", "n"], None),
-    (["d", "d", "d", "d"], ["d", "o", "./d"], None),
-    (READ, ["l", "d", "n"], Some("d")),
-    (READ, ["l", "r", "n"], Some("r")),
-    (READ, ["l", "s", "n"], Some("s")),
-    (READ, ["l", "t", "n"], Some("t")),
-    (READ, ["l", "l", "n"], Some("l")),
-    (READ, ["l", "n", "n"], Some("n")),
-    (READ, ["l", "o", "d"], Some("d")),
-    (READ, ["l", "o", "r"], Some("r")),
-    (READ, ["l", "o", "s"], Some("s")),
-    (READ, ["l", "o", "t"], Some("t")),
-    (READ, ["l", "o", "l"], Some("l")),
-    (READ, ["l", "o", "o"], Some("o")),
-    // The first repeated name in the order of the arguments is reported.
-    (READ, ["l", "s", "d"], Some("s")),
+// Commands that store no file, or only those that a list names.
+const NO_NAMES: &[(&str, Option<&str>)] = &[
+    ("repack,check,d,d,d", None),
+    ("repack,verify,d,d,d,d", None),
+    ("repack,verify-live,d,d,d,d,d", None),
+    ("repack,batch,d,d,d", None),
 ];
 
 #[test]
-fn a_name_that_an_import_stores_is_given_twice(rt: HostRuntime) {
-    assert_eq!(rt; other_imported_repeat(IMPORTED_NAMES), None);
+fn names_to_read_may_be_equal(rt: HostRuntime) -> Result<(), Fail> {
+    assert_eq!(rt; other_repeat(rt.alloc(), NO_NAMES)?, None);
+    Ok(())
 }

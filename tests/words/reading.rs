@@ -3,6 +3,7 @@
 use command_words::proof_words::{ExportArgs, ImportArgs};
 use command_words::resume_words::ResumeArgs;
 use command_words::run_words::InputArgs;
+use command_words::show_words::ShowArgs;
 use command_words::words::{CommandArgs, WordsFault, read_words};
 use std::alloc::{AllocError as NoMemory, Global};
 
@@ -61,6 +62,7 @@ fn command_text(alloc: Global, command: CommandArgs<'_>) -> Result<String, NoMem
             let inputs = inputs_text(alloc, "verify", files.inputs)?;
             joined(alloc, &inputs, &[files.transcript])
         }
+        CommandArgs::Show(files) => show_text(alloc, files),
         CommandArgs::Resume(files) => resume_text(alloc, files),
         CommandArgs::Seek(files) => {
             let names = [files.domains, files.rows, files.scenario, files.channels];
@@ -79,6 +81,13 @@ fn command_text(alloc: Global, command: CommandArgs<'_>) -> Result<String, NoMem
         CommandArgs::Export(files) => export_text(alloc, files),
         CommandArgs::Import(files) => import_text(alloc, files),
     }
+}
+
+// Returns the text of `show`.
+fn show_text(alloc: Global, files: ShowArgs<'_>) -> Result<String, NoMemory> {
+    let inputs = inputs_text(alloc, "show", files.shown.inputs)?;
+    let names = [files.shown.transcript, files.result, files.channels];
+    joined(alloc, &inputs, &names)
 }
 
 // Returns the text of `resume`.
@@ -126,6 +135,16 @@ fn import_text(alloc: Global, files: ImportArgs<'_>) -> Result<String, NoMemory>
         last.as_str(),
     ];
     joined(alloc, "command import", &names)
+}
+
+/// Checks whether this line is a command, and `wanted` its first name of a file to store that is given twice.
+pub fn is_given_twice(alloc: Global, line: &str, wanted: Option<&str>) -> Result<bool, NoMemory> {
+    let words = words_of(alloc, line)?;
+    match read_words(alloc, &words) {
+        Ok(command) => Ok(command.given_twice() == wanted),
+        Err(WordsFault::Refused(_)) => Ok(false),
+        Err(WordsFault::NoMemory) => Err(NoMemory),
+    }
 }
 
 /// Returns the text of the command that the words are, or the text of their error.

@@ -149,7 +149,7 @@ module _ (names : BatchNames) (before after : Outside) (status : ℕ) (batch : L
   ended-statuses xs printed (Both is all writes) =
       subst (λ z. IsTrue (is_in (0 ∷ 1 ∷ 4 ∷ 8 ∷ 11 ∷ []) z)) (sym is) (within (0 ∷ 1 ∷ 11 ∷ []) (0 ∷ 1 ∷ 4 ∷ 8 ∷ 11 ∷ []) (batch_status batch) refl (batch-within batch))
   ended-statuses xs printed (NotSaid four all rises less said) = one-of (0 ∷ 1 ∷ 4 ∷ 8 ∷ 11 ∷ []) status 4 four refl
-  ended-statuses xs printed (NotStored x four part rises unsteady said) = one-of (0 ∷ 1 ∷ 4 ∷ 8 ∷ 11 ∷ []) status 4 four refl
+  ended-statuses xs printed (NotStored x among four part rises unsteady said) = one-of (0 ∷ 1 ∷ 4 ∷ 8 ∷ 11 ∷ []) status 4 four refl
   ended-statuses xs printed (OutOfRoom x eight part said) = one-of (0 ∷ 1 ∷ 4 ∷ 8 ∷ 11 ∷ []) status 8 eight refl
 
   reached-statuses : IsReached → IsTrue (is_in (0 ∷ 1 ∷ 4 ∷ 8 ∷ 11 ∷ []) status)
@@ -182,7 +182,7 @@ module _ (names : BatchNames) (before after : Outside) (status : ℕ) (batch : L
           (run : IsBatchRun names before batch) × (status ≡ batch_status batch) × Writes before.held after.held (status_lines run.held.lines batch) (Ok tt)
       go (Both is all writes) = (run-of-reached r, is, writes)
       go (NotSaid four all rises less said) = absurd (off (0 ∷ 1 ∷ 11 ∷ []) status 4 h four refl)
-      go (NotStored x four part rises unsteady said) = absurd (off (0 ∷ 1 ∷ 11 ∷ []) status 4 h four refl)
+      go (NotStored x among four part rises unsteady said) = absurd (off (0 ∷ 1 ∷ 11 ∷ []) status 4 h four refl)
       go (OutOfRoom x eight part said) = absurd (off (0 ∷ 1 ∷ 11 ∷ []) status 8 h eight refl)
 
   -- in a modelled folder the texts have different names
@@ -209,7 +209,7 @@ module _ (names : BatchNames) (before after : Outside) (status : ℕ) (batch : L
           × MatchOption after.files ⊥ (λ new. AreStored files new (batch_texts run.held batch) × EachOf (IsRunOf files new names) run.held.lines run.held.inputs batch)
       go (Both is all writes) = (run-of-reached r, for-told after.files (λ new. AreStored files new (batch_texts r.held batch)) (λ new. AreStored files new (batch_texts r.held batch) × EachOf (IsRunOf files new names) r.held.lines r.held.inputs batch) each (all files modelled (apart-texts r files modelled)))
       go (NotSaid four all rises less said) = absurd (off (0 ∷ 1 ∷ 11 ∷ []) status 4 h four refl)
-      go (NotStored x four part rises unsteady said) = absurd (off (0 ∷ 1 ∷ 11 ∷ []) status 4 h four refl)
+      go (NotStored x among four part rises unsteady said) = absurd (off (0 ∷ 1 ∷ 11 ∷ []) status 4 h four refl)
       go (OutOfRoom x eight part said) = absurd (off (0 ∷ 1 ∷ 11 ∷ []) status 8 h eight refl)
 
   abbrev part-of : (files : List StoredFile) (r : IsReached) (x : NamedText) → IsPart files (batch_texts r.held batch) x after → IsBatchPart files names before after batch
@@ -224,7 +224,7 @@ module _ (names : BatchNames) (before after : Outside) (status : ℕ) (batch : L
       go : Ended (batch_texts r.held batch) (status_lines r.held.lines batch) (batch_status batch) before after status → IsBatchUnstored files names before after batch ⊎ IsBatchCut files names before after batch
       go (Both is all writes) = absurd (never 4 is four refl)
       go (NotSaid at all rises less said) = inr (record { run = run-of-reached r; stored = all files modelled (apart-texts r files modelled); failed = rises; unsure = less; lines = said })
-      go (NotStored x at part rises unsteady said) =
+      go (NotStored x among at part rises unsteady said) =
           let p : IsPart files (batch_texts r.held batch) x after = part files modelled (apart-texts r files modelled) in
           inl (record {
             risen = rises;
@@ -243,7 +243,7 @@ module _ (names : BatchNames) (before after : Outside) (status : ℕ) (batch : L
       go : Ended (batch_texts r.held batch) (status_lines r.held.lines batch) (batch_status batch) before after status → HasRisen before.faults after.faults ⊎ HasRisen before.sink_faults after.sink_faults
       go (Both is all writes) = absurd (never 4 is four refl)
       go (NotSaid at all rises less said) = inr rises
-      go (NotStored x at part rises unsteady said) = inl rises
+      go (NotStored x among at part rises unsteady said) = inl rises
       go (OutOfRoom x eight part said) = absurd (omega arith)
 
   batch-surely : Came → before.steady ≡ true → ((run : IsBatchRun names before batch) → length (status_lines run.held.lines batch) ≤ before.sure) → status ≢ 4
@@ -255,7 +255,7 @@ module _ (names : BatchNames) (before after : Outside) (status : ℕ) (batch : L
       go : Ended (batch_texts r.held batch) (status_lines r.held.lines batch) (batch_status batch) before after status → ⊥
       go (Both is all writes) = never 4 is four refl
       go (NotSaid at all rises less said) = let fits = room (run-of-reached r) in omega (arith, fits, less)
-      go (NotStored x at part rises unsteady said) = unsteady steady
+      go (NotStored x among at part rises unsteady said) = unsteady steady
       go (OutOfRoom x eight part said) = omega arith
 
   batch-starved : Came → status ≡ 8 → ((batch ≡ []) × (after.files ≡ before.files)) ⊎ IsBatchRun names before batch
@@ -271,7 +271,7 @@ module _ (names : BatchNames) (before after : Outside) (status : ℕ) (batch : L
       go : Ended (batch_texts r.held batch) (status_lines r.held.lines batch) (batch_status batch) before after status → IsBatchPart files names before after batch
       go (Both is all writes) = absurd (never 8 is eight refl)
       go (NotSaid four all rises less said) = absurd (omega arith)
-      go (NotStored x four part rises unsteady said) = absurd (omega arith)
+      go (NotStored x among four part rises unsteady said) = absurd (omega arith)
       go (OutOfRoom x at part said) = part-of files r x (part files modelled (apart-texts r files modelled))
 
   batch-unrecorded : Came → IsTrue (is_in (3 ∷ 5 ∷ []) status) → batch ≡ []
@@ -293,7 +293,7 @@ module _ (names : BatchNames) (before after : Outside) (status : ℕ) (batch : L
       go : Ended (batch_texts r.held batch) (status_lines r.held.lines batch) (batch_status batch) before after status → IsLinePrinted before after memory_line
       go (Both is all writes) = absurd (never 8 is eight refl)
       go (NotSaid four all rises less said) = absurd (omega arith)
-      go (NotStored x four part rises unsteady said) = absurd (omega arith)
+      go (NotStored x among four part rises unsteady said) = absurd (omega arith)
       go (OutOfRoom x at part said) = said
 
   -- ---- what stopped the reading
@@ -398,7 +398,7 @@ module _ (names : BatchNames) (before after : Outside) (status : ℕ) (batch : L
         | inr other ↦ inr other
       ]
       go (NotSaid four all rises less said) = inr (one-of (1 ∷ 4 ∷ 11 ∷ []) status 4 four refl)
-      go (NotStored x four part rises unsteady said) = inr (one-of (1 ∷ 4 ∷ 11 ∷ []) status 4 four refl)
+      go (NotStored x among four part rises unsteady said) = inr (one-of (1 ∷ 4 ∷ 11 ∷ []) status 4 four refl)
       go (OutOfRoom x eight part said) = inl (inr (inl eight))
 
   -- ---- the other files
@@ -428,7 +428,7 @@ module _ (names : BatchNames) (before after : Outside) (status : ℕ) (batch : L
       go : Ended (batch_texts r.held batch) (status_lines r.held.lines batch) (batch_status batch) before after status → MatchOption after.files ⊥ (λ new. AllOthersUnchanged files new (map (λ (line : ListedNames). line.result) r.held.lines))
       go (Both done all writes) = for-told after.files (λ new. AreStored files new (batch_texts r.held batch)) (λ new. AllOthersUnchanged files new (map (λ (line : ListedNames). line.result) r.held.lines)) whole (all files modelled (apart-texts r files modelled))
       go (NotSaid four all rises less said) = for-told after.files (λ new. AreStored files new (batch_texts r.held batch)) (λ new. AllOthersUnchanged files new (map (λ (line : ListedNames). line.result) r.held.lines)) whole (all files modelled (apart-texts r files modelled))
-      go (NotStored x four part rises unsteady said) = some x (part files modelled (apart-texts r files modelled))
+      go (NotStored x among four part rises unsteady said) = some x (part files modelled (apart-texts r files modelled))
       go (OutOfRoom x eight part said) = some x (part files modelled (apart-texts r files modelled))
 
   -- without records there are no texts

@@ -27,7 +27,7 @@ use Rattle.commands.specs.Delivery.{AllOthersUnchanged, AreStored, Delivers, Nam
 use Rattle.commands.specs.Ends.{AreInputsOf, ImportEnds, IsFileHeld, IsNotLoaded, IsShown, import_texts, IsStatusOr}
 use Rattle.commands.specs.Ends.ImportEnds.{NothingShown, ImportOutOfMemory, NoOpenStep, NoLog, NotSettled, Settled}
 use Rattle.commands.specs.Ends.IsNotLoaded.{Unloaded, LongText}
-use Rattle.commands.specs.ImportPromises.{ImportPromises, IsImported, IsImportedUpTo, IsLogIn, IsSettledStep, IsSoundIn, IsUnimported, IsUnlogged, IsUnsummed}
+use Rattle.commands.specs.ImportPromises.{ImportPromises, IsImported, IsImportedUpTo, IsLogIn, IsSettledStep, IsUnimported, IsUnlogged, IsUnsummed}
 use Rattle.commands.specs.Inputs.{file_limit, inputs_of, transcript_limit}
 use Rattle.commands.specs.Outside.{Outside, IsLinePrinted}
 use Rattle.commands.specs.Promises.{IsSomeRecord}
@@ -35,11 +35,11 @@ use Rattle.commands.specs.Records.{IsRecordIn, done_status, outcome, result_of, 
 use Rattle.commands.specs.Messages.{memory_line, unread_line, unwritten_line}
 use Rattle.commands.specs.Settling.{unsettled_line, open_fault, step_line}
 use Rattle.commands.specs.Verified.{verified}
-use Rattle.commands.specs.VerifyPromises.{AreAllFilesPresent, IsGiven, VerifyPromises}
-use Rattle.command_words.specs.Words.{ImportNames, repeated_import}
+use Rattle.commands.specs.VerifyPromises.{AreAllFilesPresent, IsGiven, IsSoundTranscript, VerifyPromises}
+use Rattle.command_words.specs.Words.{ImportNames, import, repeated_by}
 use Rattle.commands.proofs.DeliveryLemmas.{AreApart, Ended, ended-of, for-told, others-up-to}
 use Rattle.commands.proofs.DeliveryLemmas.Ended.{Both, NotSaid, NotStored, OutOfRoom}
-use Rattle.auction_cmd.proofs.ExportLemmas.{shown-given, shown-is, shown-not-halted, shown-not-long, shown-not-refused, unshown-or, unshown-statuses}
+use Rattle.auction_cmd.proofs.ViewCases.{shown-given, shown-is, shown-not-halted, shown-not-long, shown-not-refused, unshown-or, unshown-statuses}
 use Rattle.commands.proofs.ImportEndLemmas.{changed, two-faults, undecided-some}
 use Rattle.commands.proofs.OutputNames.{own-imports}
 use Rattle.commands.proofs.RoundTripLemmas.{accepted-auction, record-verified}
@@ -69,9 +69,9 @@ same-ok r a b p q = cc (sym p ∙ q)
 
 -- if there is a record, no output name is given twice
 abbrev pub IsOnce : ImportNames → Option Record → Type 0
-IsOnce names found = (found ≡ None) ⊎ (repeated_import names ≡ None)
+IsOnce names found = (found ≡ None) ⊎ (repeated_by (import names) ≡ None)
 
-once-named : (names : ImportNames) (found : Option Record) (rec : Record) → found ≡ Some rec → IsOnce names found → repeated_import names ≡ None
+once-named : (names : ImportNames) (found : Option Record) (rec : Record) → found ≡ Some rec → IsOnce names found → repeated_by (import names) ≡ None
 once-named names found rec some (inl none) = cc (sym some ∙ none)
 once-named names found rec some (inr once) = once
 
@@ -89,7 +89,7 @@ module _ (names : ImportNames) (before after : Outside) (status : ℕ) (found : 
   delivered-statuses : (inputs : Inputs) (new : Record) → Delivers (import_texts names inputs new) (summary_in new.order inputs (undecided_of new.steps)) (done_status (undecided_of new.steps)) before after status → IsTrue (is_in (0 ∷ 1 ∷ 4 ∷ 8 ∷ []) status)
   delivered-statuses inputs new d = ended-statuses (import_texts names inputs new) _ (undecided_of new.steps) before after status (ended inputs new d)
 
-  pub import-statuses : ImportEnds names before after status found → IsTrue (is_in (0 ∷ 1 ∷ 3 ∷ 4 ∷ 5 ∷ 8 ∷ 9 ∷ 10 ∷ []) status)
+  import-statuses : ImportEnds names before after status found → IsTrue (is_in (0 ∷ 1 ∷ 3 ∷ 4 ∷ 5 ∷ 8 ∷ 9 ∷ 10 ∷ []) status)
   import-statuses (NothingShown end none) = within (3 ∷ 5 ∷ 8 ∷ 9 ∷ []) (0 ∷ 1 ∷ 3 ∷ 4 ∷ 5 ∷ 8 ∷ 9 ∷ 10 ∷ []) status refl (unshown-statuses names.shown before after status found end none)
   import-statuses (ImportOutOfMemory s) = one-of (0 ∷ 1 ∷ 3 ∷ 4 ∷ 5 ∷ 8 ∷ 9 ∷ 10 ∷ []) status 8 s.status_is refl
   import-statuses (NoOpenStep inputs rec fault s is ten none said same) = one-of (0 ∷ 1 ∷ 3 ∷ 4 ∷ 5 ∷ 8 ∷ 9 ∷ 10 ∷ []) status 10 ten refl
@@ -97,15 +97,15 @@ module _ (names : ImportNames) (before after : Outside) (status : ℕ) (found : 
   import-statuses (NotSettled inputs rec log fault s is held err ten none said same) = one-of (0 ∷ 1 ∷ 3 ∷ 4 ∷ 5 ∷ 8 ∷ 9 ∷ 10 ∷ []) status 10 ten refl
   import-statuses (Settled inputs rec log new s is held ok own kept some d) = within (0 ∷ 1 ∷ 4 ∷ 8 ∷ []) (0 ∷ 1 ∷ 3 ∷ 4 ∷ 5 ∷ 8 ∷ 9 ∷ 10 ∷ []) status refl (delivered-statuses inputs new d)
 
-  pub import-unrecorded : ImportEnds names before after status found → IsTrue (is_in (2 ∷ 3 ∷ 5 ∷ 9 ∷ 10 ∷ []) status) → found ≡ None
+  import-unrecorded : ImportEnds names before after status found → IsTrue (is_in (3 ∷ 5 ∷ 9 ∷ 10 ∷ []) status) → found ≡ None
   import-unrecorded (NothingShown end none) h = none
   import-unrecorded (ImportOutOfMemory s) h = s.found_is
   import-unrecorded (NoOpenStep inputs rec fault s is ten none said same) h = none
   import-unrecorded (NoLog inputs rec s is n none same) h = none
   import-unrecorded (NotSettled inputs rec log fault s is held err ten none said same) h = none
-  import-unrecorded (Settled inputs rec log new s is held ok own kept some d) h = absurd (apart-lists (2 ∷ 3 ∷ 5 ∷ 9 ∷ 10 ∷ []) (0 ∷ 1 ∷ 4 ∷ 8 ∷ []) status refl h (delivered-statuses inputs new d))
+  import-unrecorded (Settled inputs rec log new s is held ok own kept some d) h = absurd (apart-lists (3 ∷ 5 ∷ 9 ∷ 10 ∷ []) (0 ∷ 1 ∷ 4 ∷ 8 ∷ []) status refl h (delivered-statuses inputs new d))
 
-  pub import-backed : ImportEnds names before after status found → MatchOption found ⊤ IsSomeRecord
+  import-backed : ImportEnds names before after status found → MatchOption found ⊤ IsSomeRecord
   import-backed (NothingShown end none) = absent found none
   import-backed (ImportOutOfMemory s) = absent found s.found_is
   import-backed (NoOpenStep inputs rec fault s is ten none said same) = absent found none
@@ -114,7 +114,7 @@ module _ (names : ImportNames) (before after : Outside) (status : ℕ) (found : 
   import-backed (Settled inputs rec log new s is held ok own kept some d) = rw some (some-record new.order inputs new own.backed (λ done. own.packing))
 
   -- without a record nothing was stored
-  pub import-kept : ImportEnds names before after status found → found ≡ None → after.files ≡ before.files
+  import-kept : ImportEnds names before after status found → found ≡ None → after.files ≡ before.files
   import-kept (NothingShown end none) absent = let v = verify-promises names.shown before after status found end in v.untouched
   import-kept (ImportOutOfMemory s) absent = s.files
   import-kept (NoOpenStep inputs rec fault s is ten none said same) absent = same
@@ -133,7 +133,7 @@ module _ (names : ImportNames) (before after : Outside) (status : ℕ) (found : 
 
   -- ---- a step that is decided
 
-  abbrev sound-in : (files : List StoredFile) (inputs : Inputs) (rec : Record) → before.files ≡ Some files → IsShown names.shown before inputs rec → IsSoundIn files names.shown
+  abbrev sound-in : (files : List StoredFile) (inputs : Inputs) (rec : Record) → before.files ≡ Some files → IsShown names.shown before inputs rec → IsSoundTranscript files names.shown
   sound-in files inputs rec modelled s = record { inputs = inputs; text = s.text; given = shown-given files names.shown before inputs rec modelled s; rec = rec; shown = s.sound }
 
   log-in : (files : List StoredFile) (log : List ℕ) → before.files ≡ Some files → IsFileHeld names.proof before log → IsLogIn files names.proof log
@@ -181,7 +181,7 @@ module _ (names : ImportNames) (before after : Outside) (status : ℕ) (found : 
         status_is = done;
       }
       go (NotSaid four all rises less said) = absurd (off (0 ∷ 1 ∷ []) status 4 h four refl)
-      go (NotStored y four part rises unsteady said) = absurd (off (0 ∷ 1 ∷ []) status 4 h four refl)
+      go (NotStored y among four part rises unsteady said) = absurd (off (0 ∷ 1 ∷ []) status 4 h four refl)
       go (OutOfRoom y eight part said) = absurd (off (0 ∷ 1 ∷ []) status 8 h eight refl)
 
   import-summed : ImportEnds names before after status found → IsTrue (is_in (0 ∷ 1 ∷ []) status) →
@@ -198,7 +198,7 @@ module _ (names : ImportNames) (before after : Outside) (status : ℕ) (found : 
           × Writes before.held after.held (summary_in rec'.order inputs' (undecided_of rec'.steps)) (Ok tt)
       go (Both done all writes) = (inputs, new, some, own, done, writes)
       go (NotSaid four all rises less said) = absurd (off (0 ∷ 1 ∷ []) status 4 h four refl)
-      go (NotStored y four part rises unsteady said) = absurd (off (0 ∷ 1 ∷ []) status 4 h four refl)
+      go (NotStored y among four part rises unsteady said) = absurd (off (0 ∷ 1 ∷ []) status 4 h four refl)
       go (OutOfRoom y eight part said) = absurd (off (0 ∷ 1 ∷ []) status 8 h eight refl)
 
   -- ---- what was not stored or not written
@@ -220,7 +220,7 @@ module _ (names : ImportNames) (before after : Outside) (status : ℕ) (found : 
         unsure = less;
         summary = said;
       })
-      go (NotStored y is_four part rises unsteady said) =
+      go (NotStored y among is_four part rises unsteady said) =
           let p = part files modelled (apart inputs new some once) in
           inl (record {
             risen = rises;
@@ -241,7 +241,7 @@ module _ (names : ImportNames) (before after : Outside) (status : ℕ) (found : 
       go : Left inputs new → IsImportedUpTo files names after found
       go (Both done all writes) = absurd (never (undecided_of new.steps) status 8 done eight refl)
       go (NotSaid four all rises less said) = absurd (omega arith)
-      go (NotStored y four part rises unsteady said) = absurd (omega arith)
+      go (NotStored y among four part rises unsteady said) = absurd (omega arith)
       go (OutOfRoom y is_eight part said) =
           let p = part files modelled (apart inputs new some once) in
           record { one = settled-step files inputs rec new log modelled s is held ok own kept some; now = p.new; now_modelled = p.now_modelled; part = p.part }
@@ -258,7 +258,7 @@ module _ (names : ImportNames) (before after : Outside) (status : ℕ) (found : 
       go : status ≡ 4 → Left inputs new → ⊥
       go four (Both done all writes) = never (undecided_of new.steps) status 4 done four refl
       go four (NotSaid is_four all rises less said) = let enough = room inputs new.order (undecided_of new.steps) (s.accepted files modelled) in omega arith
-      go four (NotStored y is_four part rises unsteady said) = unsteady steady
+      go four (NotStored y among is_four part rises unsteady said) = unsteady steady
       go four (OutOfRoom y eight part said) = omega arith
 
   import-paid : (files : List StoredFile) (inputs : Inputs) (rec : Record) (f : FrozenAt) → names.shown.inputs.owners ≡ None → inputs_of files names.shown.inputs ≡ Ok inputs →
@@ -268,13 +268,13 @@ module _ (names : ImportNames) (before after : Outside) (status : ℕ) (found : 
 
   -- ---- a step or a log that is rejected
 
-  abbrev Cause : (files : List StoredFile) → IsSoundIn files names.shown → Type 0
+  abbrev Cause : (files : List StoredFile) → IsSoundTranscript files names.shown → Type 0
   Cause files s =
       ((fault : StepFault) × (open_fault (step_numbered s.rec.steps names.step) ≡ Some fault) × IsLinePrinted before after (step_line names.step fault))
       ⊎ ((log : List ℕ) × (fault : SettleErr) × IsLogIn files names.proof log × (open_fault (step_numbered s.rec.steps names.step) ≡ None)
       × (settled_text s.inputs.book s.rec names.step log ≡ Err fault) × IsLinePrinted before after (unsettled_line names.proof fault))
 
-  import-refused : (files : List StoredFile) → ImportEnds names before after status found → before.files ≡ Some files → status ≡ 10 → (s : IsSoundIn files names.shown) × Cause files s
+  import-refused : (files : List StoredFile) → ImportEnds names before after status found → before.files ≡ Some files → status ≡ 10 → (s : IsSoundTranscript files names.shown) × Cause files s
   import-refused files (NothingShown end none) modelled ten = absurd (off (3 ∷ 5 ∷ 8 ∷ 9 ∷ []) status 10 (unshown-statuses names.shown before after status found end none) ten refl)
   import-refused files (ImportOutOfMemory s) modelled ten = let eight = s.status_is in absurd (omega arith)
   import-refused files (NoOpenStep inputs rec fault s is ten none said same) modelled t = (sound-in files inputs rec modelled s, inl (fault, is, said))
@@ -283,10 +283,10 @@ module _ (names : ImportNames) (before after : Outside) (status : ℕ) (found : 
   import-refused files (Settled inputs rec log new s is held ok own kept some d) modelled ten = absurd (off (0 ∷ 1 ∷ 4 ∷ 8 ∷ []) status 10 (delivered-statuses inputs new d) ten refl)
 
   -- the record that verifies is that of the sound transcript
-  one-record : (files : List StoredFile) (inputs : Inputs) (rec : Record) (s : IsSoundIn files names.shown) → before.files ≡ Some files → IsShown names.shown before inputs rec → rec ≡ s.rec
+  one-record : (files : List StoredFile) (inputs : Inputs) (rec : Record) (s : IsSoundTranscript files names.shown) → before.files ≡ Some files → IsShown names.shown before inputs rec → rec ≡ s.rec
   one-record files inputs rec s modelled own = shown-is files names.shown before inputs s.inputs s.text rec s.rec modelled own s.given s.shown
 
-  one-inputs : (files : List StoredFile) (inputs : Inputs) (rec : Record) (s : IsSoundIn files names.shown) → before.files ≡ Some files → IsShown names.shown before inputs rec → inputs ≡ s.inputs
+  one-inputs : (files : List StoredFile) (inputs : Inputs) (rec : Record) (s : IsSoundTranscript files names.shown) → before.files ≡ Some files → IsShown names.shown before inputs rec → inputs ≡ s.inputs
   one-inputs files inputs rec s modelled own = same-ok (inputs_of files names.shown.inputs) inputs s.inputs (own.accepted files modelled) s.given.accepted
 
   one-log : (files : List StoredFile) (log own : List ℕ) → before.files ≡ Some files → IsFileHeld names.proof before own → IsLogIn files names.proof log → own ≡ log
@@ -298,7 +298,7 @@ module _ (names : ImportNames) (before after : Outside) (status : ℕ) (found : 
       let (bytes, is, more) = long files modelled in
       absurd (over file_limit (length log) (subst (λ z. file_limit < length z) (same-text bytes log (sym is ∙ l.modelled)) more) l.within)
 
-  import-refuses_step : (files : List StoredFile) (s : IsSoundIn files names.shown) (fault : StepFault) → ImportEnds names before after status found → before.files ≡ Some files → open_fault (step_numbered s.rec.steps names.step) ≡ Some fault → IsStatusOr 10 before status
+  import-refuses_step : (files : List StoredFile) (s : IsSoundTranscript files names.shown) (fault : StepFault) → ImportEnds names before after status found → before.files ≡ Some files → open_fault (step_numbered s.rec.steps names.step) ≡ Some fault → IsStatusOr 10 before status
   import-refuses_step files s fault (NothingShown end none) modelled f = unshown-or names.shown before after status 10 found files s.inputs s.text s.rec end none modelled s.given s.shown
   import-refuses_step files s fault (ImportOutOfMemory e) modelled f = inr (inl e.status_is)
   import-refuses_step files s fault (NoOpenStep inputs rec own o is ten none said same) modelled f = inl ten
@@ -306,7 +306,7 @@ module _ (names : ImportNames) (before after : Outside) (status : ℕ) (found : 
   import-refuses_step files s fault (NotSettled inputs rec log own o is held err ten none said same) modelled f = inl ten
   import-refuses_step files s fault (Settled inputs rec log new o is held ok own kept some d) modelled f = two-faults (step_numbered s.rec.steps names.step) fault f (sym (same-fault names rec s.rec (one-record files inputs rec s modelled o)) ∙ is)
 
-  import-refuses_log : (files : List StoredFile) (s : IsSoundIn files names.shown) (log : List ℕ) (fault : SettleErr) → ImportEnds names before after status found → before.files ≡ Some files → open_fault (step_numbered s.rec.steps names.step) ≡ None → IsLogIn files names.proof log → settled_text s.inputs.book s.rec names.step log ≡ Err fault → IsStatusOr 10 before status
+  import-refuses_log : (files : List StoredFile) (s : IsSoundTranscript files names.shown) (log : List ℕ) (fault : SettleErr) → ImportEnds names before after status found → before.files ≡ Some files → open_fault (step_numbered s.rec.steps names.step) ≡ None → IsLogIn files names.proof log → settled_text s.inputs.book s.rec names.step log ≡ Err fault → IsStatusOr 10 before status
   import-refuses_log files s log fault (NothingShown end none) modelled f l err = unshown-or names.shown before after status 10 found files s.inputs s.text s.rec end none modelled s.given s.shown
   import-refuses_log files s log fault (ImportOutOfMemory e) modelled f l err = inr (inl e.status_is)
   import-refuses_log files s log fault (NoOpenStep inputs rec own o is ten none said same) modelled f l err = inl ten
@@ -316,7 +316,7 @@ module _ (names : ImportNames) (before after : Outside) (status : ℕ) (found : 
       ok-not-err (settled_text s.inputs.book s.rec names.step log) new fault
       (sym (same-settled names inputs s.inputs rec s.rec own log (one-inputs files inputs rec s modelled o) (one-record files inputs rec s modelled o) (one-log files log own modelled held l)) ∙ ok) err
 
-  import-complete : (files : List StoredFile) (s : IsSoundIn files names.shown) (log : List ℕ) (new : Record) → ImportEnds names before after status found → before.files ≡ Some files → open_fault (step_numbered s.rec.steps names.step) ≡ None → IsLogIn files names.proof log → settled_text s.inputs.book s.rec names.step log ≡ Ok new → IsStatusOr (done_status (undecided_of new.steps)) before status ⊎ (status ≡ 4)
+  import-complete : (files : List StoredFile) (s : IsSoundTranscript files names.shown) (log : List ℕ) (new : Record) → ImportEnds names before after status found → before.files ≡ Some files → open_fault (step_numbered s.rec.steps names.step) ≡ None → IsLogIn files names.proof log → settled_text s.inputs.book s.rec names.step log ≡ Ok new → IsStatusOr (done_status (undecided_of new.steps)) before status ⊎ (status ≡ 4)
   import-complete files s log new (NothingShown end none) modelled f l ok = inl (unshown-or names.shown before after status (done_status (undecided_of new.steps)) found files s.inputs s.text s.rec end none modelled s.given s.shown)
   import-complete files s log new (ImportOutOfMemory e) modelled f l ok = inl (inr (inl e.status_is))
   import-complete files s log new (NoOpenStep inputs rec own o is ten none said same) modelled f l ok = two-faults (step_numbered rec.steps names.step) own is (same-fault names rec s.rec (one-record files inputs rec s modelled o) ∙ f)
@@ -333,7 +333,7 @@ module _ (names : ImportNames) (before after : Outside) (status : ℕ) (found : 
       go : Ended (import_texts names inputs other) (summary_in other.order inputs (undecided_of other.steps)) (done_status (undecided_of other.steps)) before after status → IsStatusOr (done_status (undecided_of new.steps)) before status ⊎ (status ≡ 4)
       go (Both done all writes) = inl (inl (done ∙ ap (λ (r : Record). done_status (undecided_of r.steps)) same))
       go (NotSaid four all rises less said) = inr four
-      go (NotStored y four part rises unsteady said) = inr four
+      go (NotStored y among four part rises unsteady said) = inr four
       go (OutOfRoom y eight part said) = inl (inr (inl eight))
 
   -- ---- as `verify`
@@ -355,7 +355,7 @@ module _ (names : ImportNames) (before after : Outside) (status : ℕ) (found : 
   import-unloaded (Settled inputs rec log new s is held ok own kept some d) h = absurd (apart-lists (3 ∷ 5 ∷ []) (0 ∷ 1 ∷ 4 ∷ 8 ∷ []) status refl h (delivered-statuses inputs new d))
 
   import-refuses : (files : List StoredFile) (inputs : Inputs) (t : List ℕ) (fault : TranscriptFault) → ImportEnds names before after status found → before.files ≡ Some files → IsGiven files names.shown inputs t → verified inputs t ≡ Err fault → IsStatusOr 9 before status
-  import-refuses files inputs t fault (NothingShown end none) modelled g err = let v = verify-promises names.shown before after status found end in v.refuses files inputs t fault modelled g err
+  import-refuses files inputs t fault (NothingShown end none) modelled g err = let v = verify-promises names.shown before after status found end in v.checks.refuses files inputs t fault modelled g err
   import-refuses files inputs t fault (ImportOutOfMemory s) modelled g err = inr (inl s.status_is)
   import-refuses files inputs t fault (NoOpenStep own rec f s is ten none said same) modelled g err = shown-not-refused files names.shown before own inputs t rec fault modelled s g err
   import-refuses files inputs t fault (NoLog own rec s is n none same) modelled g err = shown-not-refused files names.shown before own inputs t rec fault modelled s g err
@@ -363,7 +363,7 @@ module _ (names : ImportNames) (before after : Outside) (status : ℕ) (found : 
   import-refuses files inputs t fault (Settled own rec log new s is held ok of kept some d) modelled g err = shown-not-refused files names.shown before own inputs t rec fault modelled s g err
 
   import-refuses_input : (files : List StoredFile) (why : Refusal) → ImportEnds names before after status found → before.files ≡ Some files → inputs_of files names.shown.inputs ≡ Err (Refused why) → IsStatusOr 5 before status
-  import-refuses_input files why (NothingShown end none) modelled err = let v = verify-promises names.shown before after status found end in v.refuses_input files why modelled err
+  import-refuses_input files why (NothingShown end none) modelled err = let v = verify-promises names.shown before after status found end in v.reads.refuses_input files why modelled err
   import-refuses_input files why (ImportOutOfMemory s) modelled err = inr (inl s.status_is)
   import-refuses_input files why (NoOpenStep own rec f s is ten none said same) modelled err = shown-not-halted files names.shown before own rec why modelled s err
   import-refuses_input files why (NoLog own rec s is n none same) modelled err = shown-not-halted files names.shown before own rec why modelled s err
@@ -371,7 +371,7 @@ module _ (names : ImportNames) (before after : Outside) (status : ℕ) (found : 
   import-refuses_input files why (Settled own rec log new s is held ok of kept some d) modelled err = shown-not-halted files names.shown before own rec why modelled s err
 
   import-refuses_long : (files : List StoredFile) (inputs : Inputs) (bytes : List ℕ) → ImportEnds names before after status found → before.files ≡ Some files → inputs_of files names.shown.inputs ≡ Ok inputs → bytes_of files names.shown.transcript ≡ Some bytes → transcript_limit < length bytes → IsStatusOr 5 before status
-  import-refuses_long files inputs bytes (NothingShown end none) modelled ok is more = let v = verify-promises names.shown before after status found end in v.refuses_long files inputs bytes modelled ok is more
+  import-refuses_long files inputs bytes (NothingShown end none) modelled ok is more = let v = verify-promises names.shown before after status found end in v.reads.refuses_long files inputs bytes modelled ok is more
   import-refuses_long files inputs bytes (ImportOutOfMemory s) modelled ok is more = inr (inl s.status_is)
   import-refuses_long files inputs bytes (NoOpenStep own rec f s at ten none said same) modelled ok is more = shown-not-long files names.shown before own rec bytes modelled s is more
   import-refuses_long files inputs bytes (NoLog own rec s at n none same) modelled ok is more = shown-not-long files names.shown before own rec bytes modelled s is more
@@ -383,7 +383,7 @@ module _ (names : ImportNames) (before after : Outside) (status : ℕ) (found : 
   held-not-long files own bytes modelled held is more =
       absurd (over file_limit (length own) (subst (λ z. file_limit < length z) (same-text bytes own (sym is ∙ (held files modelled).0)) more) (held files modelled).1)
 
-  import-refuses_long_log : (files : List StoredFile) (s : IsSoundIn files names.shown) (bytes : List ℕ) → ImportEnds names before after status found → before.files ≡ Some files → open_fault (step_numbered s.rec.steps names.step) ≡ None → bytes_of files names.proof ≡ Some bytes → file_limit < length bytes → IsStatusOr 5 before status
+  import-refuses_long_log : (files : List StoredFile) (s : IsSoundTranscript files names.shown) (bytes : List ℕ) → ImportEnds names before after status found → before.files ≡ Some files → open_fault (step_numbered s.rec.steps names.step) ≡ None → bytes_of files names.proof ≡ Some bytes → file_limit < length bytes → IsStatusOr 5 before status
   import-refuses_long_log files s bytes (NothingShown end none) modelled f is more = unshown-or names.shown before after status 5 found files s.inputs s.text s.rec end none modelled s.given s.shown
   import-refuses_long_log files s bytes (ImportOutOfMemory e) modelled f is more = inr (inl e.status_is)
   import-refuses_long_log files s bytes (NoOpenStep inputs rec own o at ten none said same) modelled f is more = two-faults (step_numbered rec.steps names.step) own at (same-fault names rec s.rec (one-record files inputs rec s modelled o) ∙ f)
@@ -411,7 +411,7 @@ module _ (names : ImportNames) (before after : Outside) (status : ℕ) (found : 
       go : Ended (import_texts names inputs new) (summary_in new.order inputs (undecided_of new.steps)) (done_status (undecided_of new.steps)) before after status → MatchOption after.files ⊥ (Others files)
       go (Both done all writes) = for-told after.files (λ now. AreStored files now (import_texts names inputs new)) (Others files) (λ now st. st.others) (all files modelled (apart inputs new some once))
       go (NotSaid four all rises less said) = for-told after.files (λ now. AreStored files now (import_texts names inputs new)) (Others files) (λ now st. st.others) (all files modelled (apart inputs new some once))
-      go (NotStored y four part rises unsteady said) =
+      go (NotStored y among four part rises unsteady said) =
           let p = part files modelled (apart inputs new some once) in
           subst (λ o. MatchOption o ⊥ (Others files)) (sym p.now_modelled) (λ other k. others-up-to files p.new (import_texts names inputs new) p.part other k)
       go (OutOfRoom y eight part said) =
@@ -419,12 +419,12 @@ module _ (names : ImportNames) (before after : Outside) (status : ℕ) (found : 
           subst (λ o. MatchOption o ⊥ (Others files)) (sym p.now_modelled) (λ other k. others-up-to files p.new (import_texts names inputs new) p.part other k)
 
   import-untouched : ImportEnds names before after status found → IsTrue (is_in (3 ∷ 5 ∷ 9 ∷ 10 ∷ []) status) → after.files ≡ before.files
-  import-untouched end h = import-kept end (import-unrecorded end (within (3 ∷ 5 ∷ 9 ∷ 10 ∷ []) (2 ∷ 3 ∷ 5 ∷ 9 ∷ 10 ∷ []) status refl h))
+  import-untouched end h = import-kept end (import-unrecorded end h)
 
   -- ---- the faults of the outside
 
-  pub import-unread : ImportEnds names before after status found → status ≡ 3 → HasRisen before.faults after.faults
-  import-unread (NothingShown end none) three = let v = verify-promises names.shown before after status found end in v.unread three
+  import-unread : ImportEnds names before after status found → status ≡ 3 → HasRisen before.faults after.faults
+  import-unread (NothingShown end none) three = let v = verify-promises names.shown before after status found end in v.failures.unread three
   import-unread (ImportOutOfMemory s) three = let eight = s.status_is in absurd (omega arith)
   import-unread (NoOpenStep inputs rec fault s is ten none said same) three = absurd (omega arith)
   import-unread (NoLog inputs rec s is (Unloaded is_three rises absent said) none same) three = rises
@@ -433,10 +433,10 @@ module _ (names : ImportNames) (before after : Outside) (status : ℕ) (found : 
   import-unread (Settled inputs rec log new s is held ok own kept some d) three = absurd (off (0 ∷ 1 ∷ 4 ∷ 8 ∷ []) status 3 (delivered-statuses inputs new d) three refl)
 
   import-surely_read : (files : List StoredFile) → ImportEnds names before after status found → before.files ≡ Some files → before.steady ≡ true → AreAllFilesPresent files names.shown → IsSome (bytes_of files names.proof) → status ≢ 3
-  import-surely_read files (NothingShown end none) modelled steady four there = let v = verify-promises names.shown before after status found end in v.surely_read files modelled steady four
+  import-surely_read files (NothingShown end none) modelled steady four there = let v = verify-promises names.shown before after status found end in v.reads.surely_read files modelled steady four
   import-surely_read files (ImportOutOfMemory s) modelled steady four there = let eight = s.status_is in λ three. omega arith
   import-surely_read files (NoOpenStep inputs rec fault s is ten none said same) modelled steady four there = λ three. omega arith
-  import-surely_read files (NoLog inputs rec s is (Unloaded is_three rises absent said) none same) modelled steady four there = absurd (is-there names.shown before after status found (bytes_of files names.proof) there (absent files modelled steady))
+  import-surely_read files (NoLog inputs rec s is (Unloaded is_three rises absent said) none same) modelled steady four there = absurd (is-there (bytes_of files names.proof) there (absent files modelled steady))
   import-surely_read files (NoLog inputs rec s is (LongText five long said) none same) modelled steady four there = λ three. omega arith
   import-surely_read files (NotSettled inputs rec log fault s is held err ten none said same) modelled steady four there = λ three. omega arith
   import-surely_read files (Settled inputs rec log new s is held ok own kept some d) modelled steady four there = λ three. off (0 ∷ 1 ∷ 4 ∷ 8 ∷ []) status 3 (delivered-statuses inputs new d) three refl
@@ -447,7 +447,7 @@ module _ (names : ImportNames) (before after : Outside) (status : ℕ) (found : 
   for-memory steady (inr (inl eight)) = eight
   for-memory steady (inr (inr (three, unsteady))) = absurd (unsteady steady)
 
-  import-missing_log : (files : List StoredFile) (s : IsSoundIn files names.shown) → ImportEnds names before after status found → before.files ≡ Some files → before.steady ≡ true → open_fault (step_numbered s.rec.steps names.step) ≡ None → bytes_of files names.proof ≡ None →
+  import-missing_log : (files : List StoredFile) (s : IsSoundTranscript files names.shown) → ImportEnds names before after status found → before.files ≡ Some files → before.steady ≡ true → open_fault (step_numbered s.rec.steps names.step) ≡ None → bytes_of files names.proof ≡ None →
       (status ≡ 8) ⊎ ((status ≡ 3) × IsLinePrinted before after (unread_line names.proof))
   import-missing_log files s (NothingShown end none) modelled steady f gone = inl (for-memory steady (unshown-or names.shown before after status 8 found files s.inputs s.text s.rec end none modelled s.given s.shown))
   import-missing_log files s (ImportOutOfMemory e) modelled steady f gone = inl e.status_is
@@ -458,7 +458,7 @@ module _ (names : ImportNames) (before after : Outside) (status : ℕ) (found : 
   import-missing_log files s (NotSettled inputs rec log own o at held e ten none said same) modelled steady f gone = absurd (no-text log (bytes_of files names.proof) gone (held files modelled).0)
   import-missing_log files s (Settled inputs rec log new o at held ok own kept some d) modelled steady f gone = absurd (no-text log (bytes_of files names.proof) gone (held files modelled).0)
 
-  pub import-unwritten : ImportEnds names before after status found → status ≡ 4 → HasRisen before.faults after.faults ⊎ HasRisen before.sink_faults after.sink_faults
+  import-unwritten : ImportEnds names before after status found → status ≡ 4 → HasRisen before.faults after.faults ⊎ HasRisen before.sink_faults after.sink_faults
   import-unwritten (NothingShown end none) four = absurd (off (3 ∷ 5 ∷ 8 ∷ 9 ∷ []) status 4 (unshown-statuses names.shown before after status found end none) four refl)
   import-unwritten (ImportOutOfMemory s) four = let eight = s.status_is in absurd (omega arith)
   import-unwritten (NoOpenStep inputs rec fault s is ten none said same) four = absurd (omega arith)
@@ -469,10 +469,10 @@ module _ (names : ImportNames) (before after : Outside) (status : ℕ) (found : 
       go : Ended (import_texts names inputs new) (summary_in new.order inputs (undecided_of new.steps)) (done_status (undecided_of new.steps)) before after status → HasRisen before.faults after.faults ⊎ HasRisen before.sink_faults after.sink_faults
       go (Both done all writes) = absurd (never (undecided_of new.steps) status 4 done four refl)
       go (NotSaid is_four all rises less said) = inr rises
-      go (NotStored y is_four part rises unsteady said) = inl rises
+      go (NotStored y among is_four part rises unsteady said) = inl rises
       go (OutOfRoom y eight part said) = absurd (omega arith)
 
-  pub import-memory : ImportEnds names before after status found → status ≡ 8 → IsLinePrinted before after memory_line
+  import-memory : ImportEnds names before after status found → status ≡ 8 → IsLinePrinted before after memory_line
   import-memory (NothingShown end none) eight = verify-memory names.shown before after status found end eight
   import-memory (ImportOutOfMemory s) eight = s.line
   import-memory (NoOpenStep inputs rec fault s is ten none said same) eight = absurd (omega arith)
@@ -483,16 +483,17 @@ module _ (names : ImportNames) (before after : Outside) (status : ℕ) (found : 
       go : Ended (import_texts names inputs new) (summary_in new.order inputs (undecided_of new.steps)) (done_status (undecided_of new.steps)) before after status → IsLinePrinted before after memory_line
       go (Both done all writes) = absurd (never (undecided_of new.steps) status 8 done eight refl)
       go (NotSaid four all rises less said) = absurd (omega arith)
-      go (NotStored y four part rises unsteady said) = absurd (omega arith)
+      go (NotStored y among four part rises unsteady said) = absurd (omega arith)
       go (OutOfRoom y is_eight part said) = said
 
   pub import-promises : ImportEnds names before after status found → IsOnce names found → (status ≡ 0 → names.shown.inputs.owners ≡ None) → ImportPromises names before after status found
   import-promises end once valued = record {
     statuses = import-statuses end;
+    failures = record { unread = import-unread end; unwritten = import-unwritten end; memory = import-memory end };
+    keeps = record { backed = import-backed end; unrecorded = import-unrecorded end; untouched = import-kept end };
     done = λ files modelled h. import-done files end once modelled h;
     recorded = import-recorded end;
     summed = import-summed end;
-    unrecorded = λ h. import-unrecorded end (within (3 ∷ 5 ∷ 9 ∷ 10 ∷ []) (2 ∷ 3 ∷ 5 ∷ 9 ∷ 10 ∷ []) status refl h);
     paid = λ files inputs rec f modelled is some zero bought. import-paid files inputs rec f (valued zero) is bought;
     refused = λ files modelled ten. import-refused files end modelled ten;
     refuses_step = λ files s fault modelled f. import-refuses_step files s fault end modelled f;
@@ -506,10 +507,8 @@ module _ (names : ImportNames) (before after : Outside) (status : ℕ) (found : 
     refuses_long_log = λ files s bytes modelled f is more. import-refuses_long_log files s bytes end modelled f is more;
     untouched = import-untouched end;
     others = λ files modelled. import-others files end once modelled;
-    unread = import-unread end;
     surely_read = λ files modelled steady four there. import-surely_read files end modelled steady four there;
     missing_log = λ files s modelled steady f gone. import-missing_log files s end modelled steady f gone;
-    unwritten = import-unwritten end;
     stored = λ files modelled four. import-stored files end once modelled four;
     part_stored = λ files modelled eight there. import-part files end once modelled eight there;
     surely_written = λ files modelled steady room. import-surely files end modelled steady room;

@@ -1,7 +1,6 @@
 pub mod BatchLemmas
 pub mod BatchReadings
 pub mod CheckLemmas
-pub mod ExportLemmas
 pub mod ImportLemmas
 pub mod LiveLemmas
 pub mod GeneratedLemmas
@@ -13,7 +12,10 @@ pub mod PromiseLemmas
 pub mod ResumeCutLemmas
 pub mod ResumeLemmas
 pub mod RunPromiseLemmas
+pub mod ShowLemmas
 pub mod VerifyCases
 pub mod VerifyEndLemmas
 pub mod VerifyLemmas
 pub mod VerifyReadings
+pub mod ViewCases
+pub mod ViewLemmas

@@ -18,7 +18,7 @@ use Rattle.commands.specs.MakePromises.{AreMakeFilesStored, IsMakeRun, make_summ
 use Rattle.commands.specs.Outside.{Outside, IsLinePrinted}
 use Rattle.commands.specs.Records.{done_status}
 use Rattle.commands.specs.Messages.{memory_line, unwritten_line}
-use Rattle.command_words.specs.Words.{MakeNames, repeated_made}
+use Rattle.command_words.specs.Words.{MakeNames, make, repeated_by}
 use Rattle.commands.proofs.DeliveryLemmas.{AreApart, IsPart, LeavesAll, LeavesPart, all-more, all-none, part-here, up-more}
 use Rattle.commands.proofs.OutputNames.{own-made}
 use Rattle.commands.proofs.MessageLemmas.{rises-before}
@@ -105,19 +105,19 @@ made-run names found rec summary run kept = record {
 }
 
 module _ (names : MakeNames) (before after : Outside) (status : ℕ) (found : Option Record) where
-  apart : repeated_made names ≡ None → AreApart (make_texts names)
+  apart : repeated_by (make names) ≡ None → AreApart (make_texts names)
   apart once = own-made names (generated_domains names.size) (generated_rows names.seed names.size) (generated_scenario_text names.seed names.size) once
 
   -- if all was stored before, and no file is touched afterwards
-  all-made : (between : Outside) → AreAllStored (make_texts names) before between → after.files ≡ between.files → repeated_made names ≡ None → MakesAll names before after
+  all-made : (between : Outside) → AreAllStored (make_texts names) before between → after.files ≡ between.files → repeated_by (make names) ≡ None → MakesAll names before after
   all-made between stored same once files modelled =
       subst (λ o. MatchOption o ⊥ (λ new. AreStored files new (make_texts names))) (sym same) (stored-all (make_texts names) before between stored files modelled (apart once))
 
-  from-stopped : Stopped (make_texts names) before after status → found ≡ None → repeated_made names ≡ None → Reached names before after status found
+  from-stopped : Stopped (make_texts names) before after status → found ≡ None → repeated_by (make names) ≡ None → Reached names before after status found
   from-stopped (Failing x four part rises unsteady said) none once = OneFailed x four none (λ files modelled. part files modelled (apart once)) rises unsteady said
   from-stopped (Starving x eight part said) none once = OneStarved x eight none (λ files modelled. part files modelled (apart once)) said
 
-  pub reached : MakeEnds names before after status found → repeated_made names ≡ None → Reached names before after status found
+  pub reached : MakeEnds names before after status found → repeated_by (make names) ≡ None → Reached names before after status found
   reached (MakeOutOfMemory s) once = Nothing s.status_is s.found_is s.files s.line
   reached (MakeStopped stops none) once = from-stopped (stopped-of (make_texts names) before after status stops) none once
   reached (AuctionOutOfMemory between stored s) once =

@@ -4,15 +4,16 @@ use Rattle.std.specs.Prelude.{Ok, IsSome, IsTrue, MatchOption, ⊤}
 use Rattle.pack_defs.specs.Lists.{is_in}
 use Rattle.pack_defs.specs.ClockRule.{ClockTest}
 use Rattle.pack_defs.proofs.ThresholdLaw.{threshold}
+use Rattle.outside_io.specs.Faults.{HasRisen}
 use Rattle.outside_io.specs.Files.{StoredFile}
 use Rattle.outside_io.specs.Loads.{Writes}
 use Rattle.auction_core.specs.declared.record.Record.{Record}
 use Rattle.auction_core.specs.Backed.{undecided_of}
 use Rattle.scenario_make.specs.GeneratedFiles.{generated_domains, generated_rows, generated_scenario_text}
 use Rattle.commands.specs.declared.inputs.Inputs.{Inputs}
-use Rattle.commands.specs.Delivery.{AllOthersUnchanged, AreStored, NamedText}
+use Rattle.commands.specs.Delivery.{AllOthersUnchanged, AreStored, AreTextsStoredUpTo, NamedText}
 use Rattle.commands.specs.Make.{make_inputs, make_texts}
-use Rattle.commands.specs.MakePromises.{AreMakeFilesStored, IsMakeDecided, IsMakeRun, AreMakeFilesStoredUpTo, IsMakeUnstored, IsSummaryUnwritten, MakePromises, make_summary}
+use Rattle.commands.specs.MakePromises.{AreMakeFilesStored, IsMakeDecided, IsMakeRun, IsMakeUnstored, IsSummaryUnwritten, MakePromises, make_summary}
 use Rattle.commands.specs.Outside.{Outside, IsLinePrinted}
 use Rattle.commands.specs.Promises.{IsSomeRecord}
 use Rattle.commands.specs.Records.{done_status, run_order, summary_of}
@@ -38,7 +39,7 @@ all-stand : (files : List StoredFile) (names : MakeNames) (before after : Outsid
 all-stand files names before after modelled same =
     subst (λ o. MatchOption o ⊥ (λ new. AllOthersUnchanged files new (make_output_names names))) (sym (same ∙ modelled)) (λ other k. refl)
 
-abbrev up-to : (files : List StoredFile) (names : MakeNames) (x : NamedText) (after : Outside) → IsPart files (make_texts names) x after → AreMakeFilesStoredUpTo files names after
+abbrev up-to : (files : List StoredFile) (names : MakeNames) (x : NamedText) (after : Outside) → IsPart files (make_texts names) x after → AreTextsStoredUpTo files (make_texts names) after
 up-to files names x after p = record { new = p.new; now_modelled = p.now_modelled; part = p.part }
 
 part-stands : (files : List StoredFile) (names : MakeNames) (x : NamedText) (after : Outside) → IsPart files (make_texts names) x after → MatchOption after.files ⊥ (λ new. AllOthersUnchanged files new (make_output_names names))
@@ -101,7 +102,7 @@ module _ (names : MakeNames) (before after : Outside) (status : ℕ) (found : Op
   make-unwritten (Unsummed made all is rises less said) four = inr (record { made = made; failed = rises; unsure = less; summary = said })
 
   make-unstored : (files : List StoredFile) → Reached names before after status found → before.files ≡ Some files → status ≡ 4 → found ≡ None →
-      (upto : AreMakeFilesStoredUpTo files names after) × IsLinePrinted before after (unwritten_line upto.part.failed.name)
+      (upto : AreTextsStoredUpTo files (make_texts names) after) × IsLinePrinted before after (unwritten_line upto.part.failed.name)
   make-unstored files (Nothing eight none same said) modelled four missing = absurd (omega arith)
   make-unstored files (OneFailed x is none part rises unsteady said) modelled four missing =
       let p : IsPart files (make_texts names) x after = part files modelled in
@@ -138,7 +139,7 @@ module _ (names : MakeNames) (before after : Outside) (status : ℕ) (found : Op
   make-unrecorded (Unsummed made all four rises less said) eight = absurd (omega arith)
 
   make-starved : (files : List StoredFile) → Reached names before after status found → before.files ≡ Some files → status ≡ 8 →
-      (after.files ≡ before.files) ⊎ (AreMakeFilesStoredUpTo files names after ⊎ AreMakeFilesStored files names after)
+      (after.files ≡ before.files) ⊎ (AreTextsStoredUpTo files (make_texts names) after ⊎ AreMakeFilesStored files names after)
   make-starved files (Nothing is none same said) modelled eight = inl same
   make-starved files (OneFailed x four none part rises unsteady said) modelled eight = inr (inl (up-to files names x after (part files modelled)))
   make-starved files (OneStarved x is none part said) modelled eight = inr (inl (up-to files names x after (part files modelled)))
@@ -159,7 +160,7 @@ module _ (names : MakeNames) (before after : Outside) (status : ℕ) (found : Op
   with-record : IsMakeRun names found → MatchOption found ⊤ IsSomeRecord
   with-record made = let of = made.auction in rw made.recorded (some-record run_order made.inputs made.rec of.backed (λ done. of.packing))
 
-  pub make-backed : Reached names before after status found → MatchOption found ⊤ IsSomeRecord
+  make-backed : Reached names before after status found → MatchOption found ⊤ IsSomeRecord
   make-backed (Nothing is none same said) = absent found none
   make-backed (OneFailed x four none part rises unsteady said) = absent found none
   make-backed (OneStarved x is none part said) = absent found none
@@ -167,7 +168,7 @@ module _ (names : MakeNames) (before after : Outside) (status : ℕ) (found : Op
   make-backed (Summed made all is writes) = with-record made
   make-backed (Unsummed made all four rises less said) = with-record made
 
-  pub make-memory : Reached names before after status found → status ≡ 8 → IsLinePrinted before after memory_line
+  make-memory : Reached names before after status found → status ≡ 8 → IsLinePrinted before after memory_line
   make-memory (Nothing is none same said) eight = said
   make-memory (OneFailed x four none part rises unsteady said) eight = absurd (omega arith)
   make-memory (OneStarved x is none part said) eight = said
@@ -175,11 +176,23 @@ module _ (names : MakeNames) (before after : Outside) (status : ℕ) (found : Op
   make-memory (Summed made all is writes) eight = absurd (never (undecided_of made.rec.steps) status 8 is eight refl)
   make-memory (Unsummed made all four rises less said) eight = absurd (omega arith)
 
+  make-failed : Reached names before after status found → status ≡ 4 → HasRisen before.faults after.faults ⊎ HasRisen before.sink_faults after.sink_faults
+  make-failed way four = elim (make-unwritten way four) [
+    | inl unmade ↦ inl unmade.risen
+    | inr unsaid ↦ inr unsaid.failed
+  ]
+
   -- ---- all promises
 
   pub make-promises : Reached names before after status found → MakePromises names before after status found
   make-promises way = record {
     statuses = make-statuses way;
+    failures = record {
+      unread = λ three. absurd (off (0 ∷ 1 ∷ 4 ∷ 8 ∷ []) status 3 (make-statuses way) three refl);
+      unwritten = make-failed way;
+      memory = make-memory way;
+    };
+    backed = make-backed way;
     stored = λ files. make-stored files way;
     done = make-done way;
     decided = make-decided way;

@@ -1,5 +1,5 @@
 -- The promises of `resume` follow from how it ends, case by case. If its auction continues, they follow from those of a run.
-use Rattle.std.proofs.Common.{◌≡◌, ◌≢◌, ◌⊎◌, ◌<◌, ◌∙◌, ◌++◌, ℕ, true, false, inl, inr, List, [], ◌∷◌, length, refl, sym, ap, subst, arith, Option, Some, None}
+use Rattle.std.proofs.Common.{◌≡◌, ◌⊎◌, ◌∙◌, ◌++◌, ℕ, false, inl, inr, List, [], ◌∷◌, refl, sym, ap, subst, arith, Option, Some, None}
 use Rattle.std.specs.Prelude.{Ok, Err, IsSome, IsTrue, MatchOption, Result, is_some, ⊤}
 use Rattle.std.proofs.lemmas.Bool.{true≢false}
 use Rattle.pack_defs.specs.Lists.{is_in}
@@ -15,31 +15,24 @@ use Rattle.auction_core.specs.Backed.{undecided_of}
 use Rattle.auction_core.specs.NotShown.{order_kept}
 use Rattle.commands.specs.declared.messages.fault.TranscriptFault.{TranscriptFault}
 use Rattle.commands.specs.declared.inputs.Inputs.{Inputs}
-use Rattle.commands.specs.declared.inputs.input_file.Stop.TheVariants.{CannotRead, Refused}
-use Rattle.command_words.specs.declared.run_words.Input.{Input}
-use Rattle.commands.specs.declared.messages.refusal.Refusal.{Refusal}
 use Rattle.transcript_text.specs.Spelling.{transcript_text}
 use Rattle.commands.specs.Delivery.{AllOthersUnchanged, AreStored, named}
 use Rattle.commands.specs.Ends.{AreInputsOf, Concludes, IsTextHeld, RunEnds, auction_texts, IsStatusOr}
 use Rattle.commands.specs.Ends.Concludes.{Unfit, StartOpen, Delivered}
 use Rattle.commands.specs.Ends.IsNotLoaded.{Unloaded, LongText}
 use Rattle.commands.specs.Ends.RunEnds.{Concluded}
-use Rattle.commands.specs.Ends.VerifyEnds.{VerifyStopped, VerifyOutOfMemory, NotLoaded}
-use Rattle.commands.specs.Inputs.{inputs_of, transcript_limit}
 use Rattle.commands.specs.Outside.{Outside, IsLinePrinted}
 use Rattle.commands.specs.Promises.{IsSomeRecord}
 use Rattle.commands.specs.Records.{IsEndedRecordIn, IsRecordIn, StartFits, StartUnfit, done_status, summary_in}
-use Rattle.commands.specs.Refusal.{refusal_line}
-use Rattle.command_words.specs.Words.{name_of}
 use Rattle.commands.specs.ResumeEnds.{ResumeEnds}
 use Rattle.commands.specs.ResumeEnds.ResumeEnds.{ResumeStopped, ResumeOutOfMemory, PrefixNotLoaded, PrefixRejected, Continued}
 use Rattle.auction_cmd.specs.ResumePromises.{IsResumed, ResumePromises}
 use Rattle.commands.specs.Resume.{ContinuesFrom, begun}
-use Rattle.commands.specs.Messages.{long_line, memory_line, unread_line}
+use Rattle.commands.specs.Messages.{memory_line}
 use Rattle.commands.specs.Verified.{CanBeNamed, fault_line, verified}
-use Rattle.commands.specs.VerifyPromises.{AreAllFilesPresent, IsGiven}
+use Rattle.commands.specs.VerifyPromises.{IsGiven}
 use Rattle.command_words.specs.Words.{ResumeNames, RunNames, resume_input_names, output_names}
-use Rattle.commands.proofs.Halts.{halted-held, not-both, same-inputs, stopped-memory, stopped-statuses}
+use Rattle.commands.proofs.Halts.{halted-held, same-inputs, stopped-memory, stopped-statuses}
 use Rattle.commands.proofs.DeliveryLemmas.{Ended, ended-of, for-told}
 use Rattle.commands.proofs.DeliveryLemmas.Ended.{Both, NotSaid, NotStored, OutOfRoom}
 use Rattle.auction_cmd.proofs.ResumeCutLemmas.{cut-begun, verified-fits, whole-again, whole-begun, whole-started}
@@ -49,7 +42,8 @@ use Rattle.auction_cmd.proofs.RunPromiseLemmas.{run-promises}
 use Rattle.commands.proofs.StartLemmas.{at-end, run-complete, run-memory, run-unfits}
 use Rattle.commands.proofs.Statuses.{apart-lists, off, one-of, within}
 use Rattle.auction_cmd.proofs.VerifyEndLemmas.{is-given, no-text, not-long, same-text, unloaded-statuses}
-use Rattle.auction_cmd.proofs.VerifyReadings.{all-halted as text-halted, all-missing as text-missing, all-missing_transcript as text-missing_transcript, all-refuses_input as text-refuses_input, all-refuses_long as text-refuses_long, all-surely_read as text-surely_read, all-unread as text-unread, all-unread_says as text-unread_says}
+use Rattle.auction_cmd.proofs.VerifyReadings.{TextReading, after-reading, read-unread, reads-transcript}
+use Rattle.auction_cmd.proofs.VerifyReadings.TextReading.{AtInput, AtText, Read, Starved}
 
 -- ---- two readings of one beginning
 
@@ -176,13 +170,13 @@ module _ (names : ResumeNames) (before after : Outside) (status : ℕ) (found : 
       go (Rejected nine none same) = absent found none
       go (On w) = run-backed (order_kept w.kept) names.run_files before after status found (as-run w)
 
-  all-unrecorded : ResumeEnds names before after status found → IsTrue (is_in (3 ∷ 5 ∷ 9 ∷ []) status) → found ≡ None
+  all-unrecorded : ResumeEnds names before after status found → IsTrue (is_in (3 ∷ 5 ∷ 9 ∷ 10 ∷ []) status) → found ≡ None
   all-unrecorded end h = go (way end)
     where
       go : Ending → found ≡ None
       go (Short s none same) = none
       go (Rejected nine none same) = none
-      go (On w) = absurd (apart-lists (3 ∷ 5 ∷ 9 ∷ []) (0 ∷ 1 ∷ 4 ∷ 6 ∷ 7 ∷ 8 ∷ []) status refl h (went-statuses w))
+      go (On w) = absurd (apart-lists (3 ∷ 5 ∷ 9 ∷ 10 ∷ []) (0 ∷ 1 ∷ 4 ∷ 6 ∷ 7 ∷ 8 ∷ []) status refl h (went-statuses w))
 
   -- ---- an auction that ended at its start
 
@@ -302,7 +296,7 @@ module _ (names : ResumeNames) (before after : Outside) (status : ℕ) (found : 
           IsStatusOr (done_status (undecided_of rec.steps)) before status ⊎ (status ≡ 4)
       last w same (Both done all writes) = inl (inl (done ∙ ap (λ (r : Record). done_status (undecided_of r.steps)) same))
       last w same (NotSaid four all rises less said) = inr four
-      last w same (NotStored x four part rises unsteady said) = inr four
+      last w same (NotStored x among four part rises unsteady said) = inr four
       last w same (OutOfRoom x eight part said) = inl (inr (inl eight))
 
       by : (w : IsWent) → Concludes (order_kept w.kept) names.run_files w.inputs w.rec before after status found → IsStatusOr (done_status (undecided_of rec.steps)) before status ⊎ (status ≡ 4)
@@ -347,75 +341,14 @@ module _ (names : ResumeNames) (before after : Outside) (status : ℕ) (found : 
   all-refused files (PrefixRejected inputs text fault are can held is is_nine none said same) modelled nine = (inputs, text, is-given files (resume_input_names names) before inputs text modelled are held, fault, is, said)
   all-refused files (Continued inputs text kept rec are can held is goes c) modelled nine = absurd (off (0 ∷ 1 ∷ 4 ∷ 6 ∷ 7 ∷ 8 ∷ []) status 9 (concluded-statuses (order_kept kept) inputs rec c) nine refl)
 
-  -- ---- what was not read
-
-  concluded-off : {X : Type 0} (order : Order) (inputs : Inputs) (rec : Record) (n : ℕ) → Concludes order names.run_files inputs rec before after status found → status ≡ n → is_in (0 ∷ 1 ∷ 4 ∷ 6 ∷ 7 ∷ 8 ∷ []) n ≡ false → X
-  concluded-off order inputs rec n c is out = absurd (off (0 ∷ 1 ∷ 4 ∷ 6 ∷ 7 ∷ 8 ∷ []) status n (concluded-statuses order inputs rec c) is out)
-
-  all-halted : (files : List StoredFile) → ResumeEnds names before after status found → before.files ≡ Some files → status ≡ 5 →
-      ((why : Refusal) × (inputs_of files names.run_files.inputs ≡ Err (Refused why)) × IsLinePrinted before after (refusal_line names.run_files.inputs why))
-      ⊎ ((inputs : Inputs) × (inputs_of files names.run_files.inputs ≡ Ok inputs) × (bytes : List ℕ) × (bytes_of files names.prefix ≡ Some bytes)
-      × (transcript_limit < length bytes) × IsLinePrinted before after (long_line names.prefix))
-  all-halted files (ResumeStopped s none) modelled five = text-halted (resume_input_names names) before after status found files (VerifyStopped s none) modelled five
-  all-halted files (ResumeOutOfMemory s) modelled five = text-halted (resume_input_names names) before after status found files (VerifyOutOfMemory s) modelled five
-  all-halted files (PrefixNotLoaded inputs are n none same) modelled five = text-halted (resume_input_names names) before after status found files (NotLoaded inputs are n none same) modelled five
-  all-halted files (PrefixRejected inputs text fault are can held is nine none said same) modelled five = absurd (omega arith)
-  all-halted files (Continued inputs text kept rec are can held is goes c) modelled five = concluded-off (order_kept kept) inputs rec 5 c five refl
-
-  all-refuses_input : (files : List StoredFile) (why : Refusal) → ResumeEnds names before after status found → before.files ≡ Some files → inputs_of files names.run_files.inputs ≡ Err (Refused why) → IsStatusOr 5 before status
-  all-refuses_input files why (ResumeStopped s none) modelled err = text-refuses_input (resume_input_names names) before after status found files why (VerifyStopped s none) modelled err
-  all-refuses_input files why (ResumeOutOfMemory s) modelled err = inr (inl s.status_is)
-  all-refuses_input files why (PrefixNotLoaded inputs are n none same) modelled err = absurd (not-both inputs (Refused why) (sym (are files modelled) ∙ err))
-  all-refuses_input files why (PrefixRejected inputs text fault are can held is nine none said same) modelled err = absurd (not-both inputs (Refused why) (sym (are files modelled) ∙ err))
-  all-refuses_input files why (Continued inputs text kept rec are can held is goes c) modelled err = absurd (not-both inputs (Refused why) (sym (are files modelled) ∙ err))
-
-  all-refuses_long : (files : List StoredFile) (inputs : Inputs) (bytes : List ℕ) → ResumeEnds names before after status found → before.files ≡ Some files → inputs_of files names.run_files.inputs ≡ Ok inputs → bytes_of files names.prefix ≡ Some bytes →
-      transcript_limit < length bytes → IsStatusOr 5 before status
-  all-refuses_long files inputs bytes (ResumeStopped s none) modelled ok is more = text-refuses_long (resume_input_names names) before after status found files inputs bytes (VerifyStopped s none) modelled ok is more
-  all-refuses_long files inputs bytes (ResumeOutOfMemory s) modelled ok is more = inr (inl s.status_is)
-  all-refuses_long files inputs bytes (PrefixNotLoaded own are n none same) modelled ok is more = text-refuses_long (resume_input_names names) before after status found files inputs bytes (NotLoaded own are n none same) modelled ok is more
-  all-refuses_long files inputs bytes (PrefixRejected own t fault are can held err nine none said same) modelled ok is more =
-      absurd (not-long files (resume_input_names names) own t bytes (is-given files (resume_input_names names) before own t modelled are held) is more)
-  all-refuses_long files inputs bytes (Continued own t kept rec are can held sound goes c) modelled ok is more =
-      absurd (not-long files (resume_input_names names) own t bytes (is-given files (resume_input_names names) before own t modelled are held) is more)
-
-  all-unread : ResumeEnds names before after status found → status ≡ 3 → HasRisen before.faults after.faults
-  all-unread (ResumeStopped s none) three = text-unread (resume_input_names names) before after status found (VerifyStopped s none) three
-  all-unread (ResumeOutOfMemory s) three = text-unread (resume_input_names names) before after status found (VerifyOutOfMemory s) three
-  all-unread (PrefixNotLoaded inputs are n none same) three = text-unread (resume_input_names names) before after status found (NotLoaded inputs are n none same) three
-  all-unread (PrefixRejected inputs text fault are can held is nine none said same) three = absurd (omega arith)
-  all-unread (Continued inputs text kept rec are can held is goes c) three = concluded-off (order_kept kept) inputs rec 3 c three refl
-
-  all-unread_says : ResumeEnds names before after status found → status ≡ 3 →
-      ((input : Input) × IsLinePrinted before after (unread_line (name_of names.run_files.inputs input))) ⊎ IsLinePrinted before after (unread_line names.prefix)
-  all-unread_says (ResumeStopped s none) three = text-unread_says (resume_input_names names) before after status found (VerifyStopped s none) three
-  all-unread_says (ResumeOutOfMemory s) three = text-unread_says (resume_input_names names) before after status found (VerifyOutOfMemory s) three
-  all-unread_says (PrefixNotLoaded inputs are n none same) three = text-unread_says (resume_input_names names) before after status found (NotLoaded inputs are n none same) three
-  all-unread_says (PrefixRejected inputs text fault are can held is nine none said same) three = absurd (omega arith)
-  all-unread_says (Continued inputs text kept rec are can held is goes c) three = concluded-off (order_kept kept) inputs rec 3 c three refl
-
-  all-surely_read : (files : List StoredFile) → ResumeEnds names before after status found → before.files ≡ Some files → before.steady ≡ true → AreAllFilesPresent files (resume_input_names names) → status ≢ 3
-  all-surely_read files (ResumeStopped s none) modelled steady there = text-surely_read (resume_input_names names) before after status found files (VerifyStopped s none) modelled steady there
-  all-surely_read files (ResumeOutOfMemory s) modelled steady there = text-surely_read (resume_input_names names) before after status found files (VerifyOutOfMemory s) modelled steady there
-  all-surely_read files (PrefixNotLoaded inputs are n none same) modelled steady there = text-surely_read (resume_input_names names) before after status found files (NotLoaded inputs are n none same) modelled steady there
-  all-surely_read files (PrefixRejected inputs text fault are can held is nine none said same) modelled steady there = λ three. omega arith
-  all-surely_read files (Continued inputs text kept rec are can held is goes c) modelled steady there = λ three. concluded-off (order_kept kept) inputs rec 3 c three refl
-
-  all-missing : (files : List StoredFile) (input : Input) → ResumeEnds names before after status found → before.files ≡ Some files → before.steady ≡ true → inputs_of files names.run_files.inputs ≡ Err (CannotRead input) →
-      (status ≡ 8) ⊎ ((status ≡ 3) × IsLinePrinted before after (unread_line (name_of names.run_files.inputs input)))
-  all-missing files input (ResumeStopped s none) modelled steady err = text-missing (resume_input_names names) before after status found files input (VerifyStopped s none) modelled steady err
-  all-missing files input (ResumeOutOfMemory s) modelled steady err = inl s.status_is
-  all-missing files input (PrefixNotLoaded inputs are n none same) modelled steady err = absurd (not-both inputs (CannotRead input) (sym (are files modelled) ∙ err))
-  all-missing files input (PrefixRejected inputs text fault are can held is nine none said same) modelled steady err = absurd (not-both inputs (CannotRead input) (sym (are files modelled) ∙ err))
-  all-missing files input (Continued inputs text kept rec are can held is goes c) modelled steady err = absurd (not-both inputs (CannotRead input) (sym (are files modelled) ∙ err))
-
-  all-missing_prefix : (files : List StoredFile) (inputs : Inputs) → ResumeEnds names before after status found → before.files ≡ Some files → before.steady ≡ true → inputs_of files names.run_files.inputs ≡ Ok inputs →
-      bytes_of files names.prefix ≡ None → (status ≡ 8) ⊎ ((status ≡ 3) × IsLinePrinted before after (unread_line names.prefix))
-  all-missing_prefix files inputs (ResumeStopped s none) modelled steady ok gone = text-missing_transcript (resume_input_names names) before after status found files inputs (VerifyStopped s none) modelled steady ok gone
-  all-missing_prefix files inputs (ResumeOutOfMemory s) modelled steady ok gone = inl s.status_is
-  all-missing_prefix files inputs (PrefixNotLoaded own are n none same) modelled steady ok gone = text-missing_transcript (resume_input_names names) before after status found files inputs (NotLoaded own are n none same) modelled steady ok gone
-  all-missing_prefix files inputs (PrefixRejected own t fault are can held is nine none said same) modelled steady ok gone = absurd (no-text t (bytes_of files names.prefix) gone (held files modelled).0)
-  all-missing_prefix files inputs (Continued own t kept rec are can held is goes c) modelled steady ok gone = absurd (no-text t (bytes_of files names.prefix) gone (held files modelled).0)
+  -- the reading of the inputs and of the beginning
+  reading : ResumeEnds names before after status found → TextReading (resume_input_names names) before after status
+  reading (ResumeStopped s none) = AtInput s
+  reading (ResumeOutOfMemory s) = Starved s.status_is
+  reading (PrefixNotLoaded inputs are n none same) = AtText inputs are n
+  reading (PrefixRejected inputs text fault are can held is nine none said same) = Read inputs text are held (one-of after-reading status 9 nine refl)
+  reading (Continued inputs text kept rec are can held is goes c) =
+      Read inputs text are held (within (0 ∷ 1 ∷ 4 ∷ 6 ∷ 7 ∷ 8 ∷ []) after-reading status refl (concluded-statuses (order_kept kept) inputs rec c))
 
   -- ---- what was not written, and what is unchanged
 
@@ -455,10 +388,19 @@ pub resume-promises : (names : ResumeNames) (before after : Outside) (status : �
     ResumePromises names before after status found
 resume-promises names before after status found end once valued = record {
   statuses = all-statuses names before after status found end;
+  reads = reads-transcript (resume_input_names names) before after status (reading names before after status found end);
+  failures = record {
+    unread = read-unread (resume_input_names names) before after status (reading names before after status found end);
+    unwritten = all-unwritten names before after status found end;
+    memory = all-memory names before after status found end;
+  };
+  keeps = record {
+    backed = all-backed names before after status found end;
+    unrecorded = all-unrecorded names before after status found end;
+    untouched = all-untouched names before after status found end;
+  };
   resumed = λ some. as-resumed names before after status found once (valued some) (by-record names before after status found end some);
   recorded = λ h. all-recorded names before after status found end h;
-  backed = all-backed names before after status found end;
-  unrecorded = λ h. all-unrecorded names before after status found end h;
   unfits = λ files inputs text kept modelled g ok unfit. all-unfits names before after status found files inputs text kept end modelled g ok unfit;
   refused = λ files modelled nine. all-refused names before after status found files end modelled nine;
   refuses = λ files inputs text fault modelled g err. all-refuses names before after status found files inputs text fault end modelled g err;
@@ -466,17 +408,6 @@ resume-promises names before after status found end once valued = record {
   any_cut = λ files inputs text behind rec modelled g e. all-any_cut names before after status found files inputs text behind rec end modelled g e;
   whole_done = λ files inputs text rec modelled g e. all-whole_done names before after status found files inputs text rec end modelled g e;
   whole = λ files inputs text rec modelled g e h. all-whole names before after status found files inputs text rec end once modelled g e h;
-  halted = λ files modelled five. all-halted names before after status found files end modelled five;
-  refuses_input = λ files why modelled err. all-refuses_input names before after status found files why end modelled err;
-  refuses_long = λ files inputs bytes modelled ok is more. all-refuses_long names before after status found files inputs bytes end modelled ok is more;
-  unread = λ three. all-unread names before after status found end three;
-  unread_says = λ three. all-unread_says names before after status found end three;
-  surely_read = λ files modelled steady there. all-surely_read names before after status found files end modelled steady there;
-  missing = λ files input modelled steady err. all-missing names before after status found files input end modelled steady err;
-  missing_prefix = λ files inputs modelled steady ok gone. all-missing_prefix names before after status found files inputs end modelled steady ok gone;
-  unwritten = λ four. all-unwritten names before after status found end four;
   others = λ files modelled. all-others names before after status found files end once modelled;
-  untouched = λ none. all-untouched names before after status found end none;
   unfit_untouched = λ h. all-ended names before after status found end h;
-  memory = λ eight. all-memory names before after status found end eight;
 }

@@ -9,7 +9,9 @@ use Rattle.outside_io.specs.Faults.{HasRisen}
 use Rattle.outside_io.specs.Files.{StoredFile, bytes_of}
 use Rattle.outside_io.specs.Loads.{Writes}
 use Rattle.auction_core.specs.declared.record.Record.{Record}
-use Rattle.auction_core.specs.Backed.{undecided_of}
+use Rattle.auction_core.specs.declared.record.Ending.TheVariants.{Done}
+use Rattle.auction_core.specs.Backed.{IsBacked, undecided_of}
+use Rattle.transcript_text.specs.RoundTrip.{IsHeld}
 use Rattle.transcript_text.specs.Spelling.{transcript_text}
 use Rattle.commands.specs.declared.messages.fault.TranscriptFault.{TranscriptFault}
 use Rattle.commands.specs.declared.inputs.Inputs.{Inputs}
@@ -26,8 +28,11 @@ use Rattle.command_words.specs.Words.{VerifyNames}
 use Rattle.commands.proofs.Halts.{halted-held, same-inputs, stopped-statuses}
 use Rattle.commands.proofs.RoundTripLemmas.{record-verified}
 use Rattle.commands.proofs.ReadingLemmas.{accepted-ascend, accepted-values}
-use Rattle.commands.proofs.Statuses.{apart-lists, off, one-of, within}
-use Rattle.auction_cmd.proofs.VerifyReadings.{all-halted, all-missing, all-missing_transcript, all-refuses_input, all-refuses_long, all-surely_read, all-unread, all-unread_says}
+use Rattle.commands.proofs.Statuses.{apart-lists, done-within, off, one-of, within}
+use Rattle.auction_cmd.proofs.LiveLemmas.{verify-live, verify-unsaid}
+use Rattle.auction_cmd.proofs.VerifyCases.{verify-backed, verify-memory, verify-none}
+use Rattle.auction_cmd.proofs.VerifyReadings.{TextReading, after-reading, read-unread, reads-transcript}
+use Rattle.auction_cmd.proofs.VerifyReadings.TextReading.{AtInput, AtText, Read, Starved}
 use Rattle.auction_cmd.proofs.VerifyEndLemmas.{is-given, never-four, no-text, not-both-verified, not-long, printed-files, printed-statuses, same-record, same-verified, unloaded-statuses}
 
 module _ (names : VerifyNames) (before after : Outside) (status : ℕ) (found : Option Record) where
@@ -55,6 +60,15 @@ module _ (names : VerifyNames) (before after : Outside) (status : ℕ) (found : 
   all-unrecorded (NotSound inputs text fault are can held is nine none said same) h = none
   all-unrecorded (Sound inputs text rec are can held is of kept p) h =
       absurd (apart-lists (3 ∷ 5 ∷ 8 ∷ 9 ∷ []) (0 ∷ 1 ∷ 4 ∷ []) status refl h (printed-statuses (result_of rec.order inputs (undecided_of rec.steps)) (undecided_of rec.steps) before after status p))
+
+  -- the reading of the inputs and of the transcript
+  pub reading : VerifyEnds names before after status found → TextReading names before after status
+  reading (VerifyStopped s none) = AtInput s
+  reading (VerifyOutOfMemory s) = Starved s.status_is
+  reading (NotLoaded inputs are n none same) = AtText inputs are n
+  reading (NotSound inputs text fault are can held is nine none said same) = Read inputs text are held (one-of after-reading status 9 nine refl)
+  reading (Sound inputs text rec are can held is of kept p) =
+      Read inputs text are held (within (0 ∷ 1 ∷ 4 ∷ []) after-reading status refl (printed-statuses (result_of rec.order inputs (undecided_of rec.steps)) (undecided_of rec.steps) before after status p))
 
   -- ---- a sound transcript
 
@@ -148,6 +162,17 @@ module _ (names : VerifyNames) (before after : Outside) (status : ℕ) (found : 
       inl (inl (subst (λ (z : Record). status ≡ done_status (undecided_of z.steps)) other done))
   complete-by files inputs text rec (Sound own t r are can held is of kept (CutShort four same rises less said)) modelled g ok = inr four
 
+  -- the transcript of a backed record has no fault
+  all-of_a_record : (files : List StoredFile) (inputs : Inputs) (rec : Record) → VerifyEnds names before after status found → before.files ≡ Some files → IsBacked inputs.scenario inputs.book rec.order rec → rec.ending ≡ Done → IsHeld rec →
+      IsGiven files names inputs (transcript_text inputs.scenario inputs.book rec) → status ≢ 9
+  all-of_a_record files inputs rec end modelled backed done held g =
+      λ nine. elim (complete-by files inputs (transcript_text inputs.scenario inputs.book rec) rec end modelled g (λ can. record-verified files names.inputs inputs rec g.accepted can backed done held)) [
+        | inl (inl is) ↦ off (0 ∷ 1 ∷ []) status 9 (subst (λ z. IsTrue (is_in (0 ∷ 1 ∷ []) z)) (sym is) (done-within (undecided_of rec.steps))) nine refl
+        | inl (inr (inl eight)) ↦ omega arith
+        | inl (inr (inr (three, unsteady))) ↦ omega arith
+        | inr four ↦ omega arith
+      ]
+
   -- ---- the sink
 
   all-unwritten : VerifyEnds names before after status found → status ≡ 4 → HasRisen before.sink_faults after.sink_faults
@@ -174,26 +199,34 @@ pub verify-promises : (names : VerifyNames) (before after : Outside) (status : �
 verify-promises names before after status found end = record {
   statuses = all-statuses names before after status found end;
   untouched = all-untouched names before after status found end;
+  reads = reads-transcript names before after status (reading names before after status found end);
+  checks = record {
+    refused = λ files modelled nine. all-refused names before after status found files end modelled nine;
+    refuses = λ files inputs text fault modelled g err. all-refuses names before after status found files inputs text fault end modelled g err;
+    of_a_record = λ files inputs rec modelled backed done held g. all-of_a_record names before after status found files inputs rec end modelled backed done held g;
+  };
+  failures = record {
+    unread = read-unread names before after status (reading names before after status found end);
+    unwritten = λ four. inr (all-unwritten names before after status found end four);
+    memory = verify-memory names before after status found end;
+  };
+  keeps = record {
+    backed = verify-backed names before after status found end;
+    unrecorded = λ h. verify-none names before after status found end (within (3 ∷ 5 ∷ 9 ∷ 10 ∷ []) (2 ∷ 3 ∷ 5 ∷ 9 ∷ 10 ∷ []) status refl h);
+    untouched = λ none. all-untouched names before after status found end;
+  };
+  live = λ files owners modelled named some. verify-live before after status found files names owners end modelled named some;
+  without_owners = λ files modelled none. verify-unsaid before after status found files names end modelled none;
   done = λ files modelled h. all-done names before after status found files end modelled h;
   cut = λ files modelled four. all-cut names before after status found files end modelled four;
   unrecorded = all-unrecorded names before after status found end;
   paid = λ files inputs rec f modelled valued is kept zero bought. all-paid names before after status found files inputs rec f valued is bought;
   printed = all-printed names before after status found end;
   recorded = all-recorded names before after status found end;
-  refused = λ files modelled nine. all-refused names before after status found files end modelled nine;
-  refuses = λ files inputs text fault modelled g err. all-refuses names before after status found files inputs text fault end modelled g err;
   complete = λ files inputs text rec modelled g ok. complete-by names before after status found files inputs text rec end modelled g (λ can. ok);
   of_a_record = λ files inputs rec modelled backed done held g.
       complete-by names before after status found files inputs (transcript_text inputs.scenario inputs.book rec) rec end modelled g
       (λ can. record-verified files names.inputs inputs rec g.accepted can backed done held);
-  halted = λ files modelled five. all-halted names before after status found files end modelled five;
-  refuses_input = λ files why modelled err. all-refuses_input names before after status found files why end modelled err;
-  refuses_long = λ files inputs bytes modelled ok is more. all-refuses_long names before after status found files inputs bytes end modelled ok is more;
-  unread = all-unread names before after status found end;
-  unread_says = all-unread_says names before after status found end;
-  surely_read = λ files modelled steady there. all-surely_read names before after status found files end modelled steady there;
-  missing = λ files input modelled steady err. all-missing names before after status found files input end modelled steady err;
-  missing_transcript = λ files inputs modelled steady ok absent. all-missing_transcript names before after status found files inputs end modelled steady ok absent;
   unwritten = all-unwritten names before after status found end;
   surely_printed = λ files modelled room. all-surely_printed names before after status found files end modelled room;
 }

@@ -1,61 +1,111 @@
--- How the program ends and what it promises, whatever the words ask for: `resume`, `batch` or another command.
-use Rattle.std.specs.Prelude.{◌≡◌, ℕ, Bool, true, false, List, [], Option, None, IsFalse, IsTrue}
-use Rattle.auction_core.specs.declared.record.Record.{Record}
+-- How the program ends and what it promises, whatever the words ask for.
+use Rattle.std.specs.Prelude.{◌≡◌, ◌⊎◌, ℕ, List, [], None}
+use Rattle.commands.specs.declared.finish.Finish.{Finish}
 use Rattle.commands.specs.BatchEnds.{BatchEnds}
-use Rattle.auction_cmd.specs.BatchPromises.{BatchPromises}
-use Rattle.commands.specs.Ends.{Ends}
-use Rattle.commands.specs.Outside.{Outside}
-use Rattle.commands.specs.Plan.{Plan, no_command, repeats, runs, checks, verifies, resumes, seeks, batches, makes, exports, imports}
-use Rattle.commands.specs.Promises.{Promises}
+use Rattle.commands.specs.CheckPromises.{CheckPromises}
+use Rattle.commands.specs.Ends.{CheckEnds, ImportEnds, MakeEnds, RunEnds, SeekEnds, VerifyEnds}
+use Rattle.commands.specs.ExportPromises.{ExportPromises}
+use Rattle.commands.specs.ImportPromises.{ImportPromises}
+use Rattle.commands.specs.MakePromises.{MakePromises}
+use Rattle.commands.specs.Messages.{memory_line, twice_line}
+use Rattle.commands.specs.Outside.{Outside, IsLinePrinted}
+use Rattle.commands.specs.Plan.{Plan, no_command, repeats, carries}
+use Rattle.commands.specs.Records.{run_order}
 use Rattle.commands.specs.ResumeEnds.{ResumeEnds}
+use Rattle.commands.specs.RunPromises.{RunPromises}
+use Rattle.commands.specs.SeekPromises.{SeekPromises}
+use Rattle.commands.specs.ShowPromises.{ShowPromises}
+use Rattle.commands.specs.Statuses.{NO_COMMAND, NO_MEMORY, REFUSED}
+use Rattle.commands.specs.VerifyPromises.{VerifyPromises}
+use Rattle.commands.specs.Views.{ViewEnds, export_answer, show_answer}
+use Rattle.auction_cmd.specs.BatchPromises.{BatchPromises}
 use Rattle.auction_cmd.specs.ResumePromises.{ResumePromises}
-use Rattle.command_words.specs.Words.{BatchNames, ResumeNames, repeated_resume}
+use Rattle.command_words.specs.Words.{Command, run, check, verify, show, resume, seek, batch, make, export, import, repeated_by}
 
--- How the program ends. `resume` continues an auction only if no output name is repeated and no owners' file is named. The records
--- of a batch are a separate list: a batch has no other record, and no other plan has records in that list.
-pub data ProgramEnds (plan : Plan) (before after : Outside) (status : ℕ) (found below : Option Record) (batch : List Record) : Type 0 where
-  Single : Ends plan before after status found below → batch ≡ [] → ProgramEnds plan before after status found below batch
-  Resumed : (names : ResumeNames) → plan ≡ resumes names → names.run_files.inputs.owners ≡ None → repeated_resume names ≡ None →
-      ResumeEnds names before after status found → below ≡ None → batch ≡ [] → ProgramEnds plan before after status found below batch
-  Batched : (names : BatchNames) → plan ≡ batches names → BatchEnds names before after status batch → found ≡ None → below ≡ None →
-      ProgramEnds plan before after status found below batch
+-- ---- which records the program returns
 
--- Whether the plan is `batch`.
-abbrev pub is_batch : Plan → Bool
-is_batch no_command = false
-is_batch (repeats name) = false
-is_batch (runs names) = false
-is_batch (checks names) = false
-is_batch (verifies names) = false
-is_batch (resumes names) = false
-is_batch (seeks names) = false
-is_batch (batches names) = true
-is_batch (makes names) = false
-is_batch (exports names) = false
-is_batch (imports names) = false
+-- There is one record at most: no second one, and none of a batch.
+pub record HasNoOther (finish : Finish) : Type 0 where
+  pub below : finish.below ≡ None
+  pub batch : finish.batch ≡ []
 
--- Whether the plan is `resume`.
-abbrev pub is_resumption : Plan → Bool
-is_resumption no_command = false
-is_resumption (repeats name) = false
-is_resumption (runs names) = false
-is_resumption (checks names) = false
-is_resumption (verifies names) = false
-is_resumption (resumes names) = true
-is_resumption (seeks names) = false
-is_resumption (batches names) = false
-is_resumption (makes names) = false
-is_resumption (exports names) = false
-is_resumption (imports names) = false
+-- There is no record.
+pub record HasNoRecord (finish : Finish) : Type 0 where
+  pub none : finish.result ≡ None
+  pub others : HasNoOther finish
 
--- What the program promises for every plan, by its status and its records.
-pub record ProgramPromises (plan : Plan) (before after : Outside) (status : ℕ) (found below : Option Record) (batch : List Record) : Type 0 where
-  -- For a plan that is neither `batch` nor `resume`, `Promises` holds. A plan other than `batch` has no records of a batch.
-  pub single : IsFalse (is_batch plan) → IsFalse (is_resumption plan) → Promises plan before after status found below
-  pub no_batch : IsFalse (is_batch plan) → batch ≡ []
-  -- For `resume`, `ResumePromises` holds, and there is no second record.
-  pub resume_promises : (names : ResumeNames) → plan ≡ resumes names → ResumePromises names before after status found
-  pub no_below : IsTrue (is_resumption plan) → below ≡ None
-  -- For `batch`, `BatchPromises` holds, and there is no other record.
-  pub batch_promises : (names : BatchNames) → plan ≡ batches names → BatchPromises names before after status batch
-  pub no_others : IsTrue (is_batch plan) → (found ≡ None) × (below ≡ None)
+-- There is no record but those of a batch.
+pub record HasBatchAlone (finish : Finish) : Type 0 where
+  pub none : finish.result ≡ None
+  pub below : finish.below ≡ None
+
+-- ---- how it ends
+
+-- How this command ends. No auction with an owners' file is continued by `resume`, and none of its steps is settled by `import`.
+abbrev pub CommandEnds : Command → Outside → Outside → Finish → Type 0
+CommandEnds (run names) before after finish = RunEnds run_order names before after finish.status finish.result × HasNoOther finish
+CommandEnds (check names) before after finish = CheckEnds names before after finish.status finish.result × HasNoOther finish
+CommandEnds (verify names) before after finish = VerifyEnds names before after finish.status finish.result × HasNoOther finish
+CommandEnds (show names) before after finish = ViewEnds names.shown (show_answer names) before after finish.status × HasNoRecord finish
+CommandEnds (resume names) before after finish =
+    (names.run_files.inputs.owners ≡ None) × ResumeEnds names before after finish.status finish.result × HasNoOther finish
+CommandEnds (seek names) before after finish = SeekEnds names before after finish.status finish.result finish.below × (finish.batch ≡ [])
+CommandEnds (batch names) before after finish = BatchEnds names before after finish.status finish.batch × HasBatchAlone finish
+CommandEnds (make names) before after finish = MakeEnds names before after finish.status finish.result × HasNoOther finish
+CommandEnds (export names) before after finish = ViewEnds names.shown (export_answer names) before after finish.status × HasNoRecord finish
+CommandEnds (import names) before after finish =
+    (names.shown.inputs.owners ≡ None) × ImportEnds names before after finish.status finish.result × HasNoOther finish
+
+-- No command is carried out: this text says why, and there is no record. No file changes, and neither does the folder's fault count.
+pub record Declines (before after : Outside) (finish : Finish) (text : List ℕ) : Type 0 where
+  pub line : IsLinePrinted before after text
+  pub files : after.files ≡ before.files
+  pub faults : after.faults ≡ before.faults
+  pub none : HasNoRecord finish
+
+-- How the program ends: memory ran out before the plan was known, the words are no command, the name of a file to store is given
+-- again, or the command ended.
+pub data ProgramEnds (plan : Plan) (before after : Outside) (finish : Finish) : Type 0 where
+  EndedOutOfMemory : finish.status ≡ NO_MEMORY → Declines before after finish memory_line → ProgramEnds plan before after finish
+  Usage : (text : List ℕ) → plan ≡ no_command → finish.status ≡ NO_COMMAND → Declines before after finish text → ProgramEnds plan before after finish
+  Repeated : (name : List ℕ) → plan ≡ repeats name → finish.status ≡ REFUSED → Declines before after finish (twice_line name) →
+      ProgramEnds plan before after finish
+  -- A command is carried out only if no name of a file to store is given again.
+  Carried : (command : Command) → plan ≡ carries command → repeated_by command ≡ None → CommandEnds command before after finish →
+      ProgramEnds plan before after finish
+
+-- ---- what it promises
+
+-- What this command promises. Only `seek` has a second record, and only `batch` has more.
+abbrev pub CommandPromises : Command → Outside → Outside → Finish → Type 0
+CommandPromises (run names) before after finish = RunPromises run_order names before after finish.status finish.result × HasNoOther finish
+CommandPromises (check names) before after finish = CheckPromises names before after finish.status finish.result × HasNoOther finish
+CommandPromises (verify names) before after finish = VerifyPromises names before after finish.status finish.result × HasNoOther finish
+CommandPromises (show names) before after finish = ShowPromises names before after finish.status × HasNoRecord finish
+CommandPromises (resume names) before after finish = ResumePromises names before after finish.status finish.result × HasNoOther finish
+CommandPromises (seek names) before after finish = SeekPromises names before after finish.status finish.result finish.below × (finish.batch ≡ [])
+CommandPromises (batch names) before after finish = BatchPromises names before after finish.status finish.batch × HasBatchAlone finish
+CommandPromises (make names) before after finish = MakePromises names before after finish.status finish.result × HasNoOther finish
+CommandPromises (export names) before after finish = ExportPromises names before after finish.status × HasNoRecord finish
+CommandPromises (import names) before after finish = ImportPromises names before after finish.status finish.result × HasNoOther finish
+
+-- What is promised where no command is carried out: there is no record, no file changes, and neither does the folder's fault count.
+-- At status 8 the line says that memory ran out.
+pub record LeavesAll (before after : Outside) (finish : Finish) : Type 0 where
+  pub none : HasNoRecord finish
+  pub files : after.files ≡ before.files
+  pub faults : after.faults ≡ before.faults
+  pub memory : finish.status ≡ NO_MEMORY → IsLinePrinted before after memory_line
+
+-- What the program promises for a plan, by its status and its records.
+pub record ProgramPromises (plan : Plan) (before after : Outside) (finish : Finish) : Type 0 where
+  -- If the words are no command, the status is 2, or 8 if memory ran out. There is no record and no file changes. Status 2 comes
+  -- from no other words.
+  pub usage : plan ≡ no_command → LeavesAll before after finish × ((finish.status ≡ NO_COMMAND) ⊎ (finish.status ≡ NO_MEMORY))
+  pub usage_only : finish.status ≡ NO_COMMAND → plan ≡ no_command
+  -- If the name of a file to store is given again, the status is 5 and the line names it, or the status is 8. There is no record
+  -- and no file changes.
+  pub twice : (name : List ℕ) → plan ≡ repeats name → LeavesAll before after finish
+      × (((finish.status ≡ REFUSED) × IsLinePrinted before after (twice_line name)) ⊎ (finish.status ≡ NO_MEMORY))
+  -- Every command keeps its own promises.
+  pub command : (asked : Command) → plan ≡ carries asked → CommandPromises asked before after finish

@@ -1,18 +1,18 @@
 //! The program: from the words of the command line to what is stored in files and written to the sink.
 
-ghost use Rattle.std.specs.Prelude.{◌≡◌, [], None, map};
+ghost use Rattle.std.specs.Prelude.{◌≡◌, ℕ, List, Some, map};
 ghost use Rattle.std.specs.String.{string_bytes};
+ghost use Rattle.command_words.specs.Words.{command_of, command_view};
 ghost use Rattle.commands.specs.Faults.{AreFaultsCounted};
+ghost use Rattle.commands.specs.Messages.{twice_line};
 ghost use Rattle.commands.specs.Outside.{IsLinePrintedTo, outside};
 ghost use Rattle.commands.specs.Plan.{plan_of};
-ghost use Rattle.auction_cmd.specs.Program.{ProgramEnds, ProgramPromises};
-ghost use Rattle.commands.specs.Messages.{twice_line};
-ghost use Rattle.commands.specs.Statuses.{REFUSED};
+ghost use Rattle.commands.specs.Statuses.{NO_COMMAND, REFUSED};
+ghost use Rattle.auction_cmd.specs.Program.{CommandEnds, HasNoRecord, ProgramEnds, ProgramPromises};
 
 use command_words::words::{CommandArgs, WordsFault, read_words};
 use commands::batch::batch;
 use commands::check::check;
-use commands::export::export;
 use commands::finish::Finish;
 use commands::import::import;
 use commands::make::make;
@@ -23,6 +23,7 @@ use commands::run::run;
 use commands::seek::seek;
 use commands::status::{NO_COMMAND, REFUSED};
 use commands::verify::verify;
+use commands::view::run_view;
 use outside_io::folder::Folder;
 use outside_io::sink::Sink;
 use solver_gate::gate::Gate;
@@ -30,20 +31,57 @@ use std::alloc::Global;
 use std::sync::Wait;
 use std::thread::Threads;
 
-// Writes that this output name is given twice.
+// Prints that this name of a file to store is given twice.
 fn refuse_twice<K: Sink>(out: &mut K, name: &str) -> Finish
     ensures status { result.status ≡ REFUSED }
-    ensures none { result.result ≡ None }
-    ensures no_other { result.below ≡ None }
-    ensures no_batch { result.batch ≡ [] }
+    ensures none { HasNoRecord result }
     ensures says { IsLinePrintedTo (K.modelled out.old) (K.modelled out.new) (twice_line name.now) }
 {
     print_line(out, &[name, ": given twice\n"]);
     Finish::without_record(REFUSED)
 }
 
-// Carries out the command of these words.
+// Prints this text, which says why the words are no command.
+fn explain_usage<K: Sink>(out: &mut K, text: &str) -> Finish
+    ensures status { result.status ≡ NO_COMMAND }
+    ensures none { HasNoRecord result }
+    ensures says { IsLinePrintedTo (K.modelled out.old) (K.modelled out.new) text.now }
+{
+    print_line(out, &[text]);
+    Finish::without_record(NO_COMMAND)
+}
+
+// Carries out this command, which some words are.
 fn carry_out<F: Folder, K: Sink, G: Gate + Sync, W: Threads + Wait + Sync>(
+    rt: &W,
+    alloc: Global,
+    command: &CommandArgs<'_>,
+    folder: &mut F,
+    out: &mut K,
+    gate: &G,
+) -> Finish
+    requires { (words : List (List ℕ)) × (command_of words ≡ Some (command_view command.now)) }
+    ensures ends { CommandEnds (command_view command.now) (outside (F.modelled folder.old) (K.modelled out.old))
+        (outside (F.modelled folder.new) (K.modelled out.new)) result }
+    ensures counted { AreFaultsCounted
+        (outside (F.modelled folder.old) (K.modelled out.old)) (outside (F.modelled folder.new) (K.modelled out.new)) result.status }
+{
+    match command {
+        CommandArgs::Run(files) => run(rt, alloc, files, folder, out, gate),
+        CommandArgs::Check(files) => check(alloc, files, folder, out),
+        CommandArgs::Verify(files) => verify(alloc, files, folder, out),
+        CommandArgs::Show(files) => run_view(alloc, files, folder, out),
+        CommandArgs::Resume(files) => resume(rt, alloc, files, folder, out, gate),
+        CommandArgs::Seek(files) => seek(rt, alloc, files, folder, out, gate),
+        CommandArgs::Batch(files) => batch(rt, alloc, files, folder, out, gate),
+        CommandArgs::Make(files) => make(rt, alloc, files, folder, out, gate),
+        CommandArgs::Export(files) => run_view(alloc, files, folder, out),
+        CommandArgs::Import(files) => import(alloc, files, folder, out),
+    }
+}
+
+// Carries out the command that the words are, or prints why there is none.
+fn answer<F: Folder, K: Sink, G: Gate + Sync, W: Threads + Wait + Sync>(
     rt: &W,
     alloc: Global,
     words: &[String],
@@ -52,42 +90,16 @@ fn carry_out<F: Folder, K: Sink, G: Gate + Sync, W: Threads + Wait + Sync>(
     gate: &G,
 ) -> Finish
     ensures ends { ProgramEnds (plan_of (map string_bytes words.now)) (outside (F.modelled folder.old) (K.modelled out.old))
-        (outside (F.modelled folder.new) (K.modelled out.new)) result.status result.result result.below result.batch }
+        (outside (F.modelled folder.new) (K.modelled out.new)) result }
     ensures counted { AreFaultsCounted
         (outside (F.modelled folder.old) (K.modelled out.old)) (outside (F.modelled folder.new) (K.modelled out.new)) result.status }
 {
     match read_words(alloc, words) {
-        Ok(CommandArgs::Run(files)) => match files.given_twice() {
+        Ok(command) => match command.given_twice() {
             Some(name) => refuse_twice(out, name),
-            None => run(rt, alloc, &files, folder, out, gate),
+            None => carry_out(rt, alloc, &command, folder, out, gate),
         },
-        Ok(CommandArgs::Check(files)) => check(alloc, &files, folder, out),
-        Ok(CommandArgs::Verify(files)) => verify(alloc, &files, folder, out),
-        Ok(CommandArgs::Resume(files)) => match files.given_twice() {
-            Some(name) => refuse_twice(out, name),
-            None => resume(rt, alloc, &files, folder, out, gate),
-        },
-        Ok(CommandArgs::Seek(files)) => match files.given_twice() {
-            Some(name) => refuse_twice(out, name),
-            None => seek(rt, alloc, &files, folder, out, gate),
-        },
-        Ok(CommandArgs::Batch(files)) => batch(rt, alloc, &files, folder, out, gate),
-        Ok(CommandArgs::Make(files)) => match files.given_twice() {
-            Some(name) => refuse_twice(out, name),
-            None => make(rt, alloc, &files, folder, out, gate),
-        },
-        Ok(CommandArgs::Export(files)) => match files.given_twice() {
-            Some(name) => refuse_twice(out, name),
-            None => export(alloc, &files, folder, out),
-        },
-        Ok(CommandArgs::Import(files)) => match files.given_twice() {
-            Some(name) => refuse_twice(out, name),
-            None => import(alloc, &files, folder, out),
-        },
-        Err(WordsFault::Refused(text)) => {
-            print_line(out, &[text.as_str()]);
-            Finish::without_record(NO_COMMAND)
-        }
+        Err(WordsFault::Refused(text)) => explain_usage(out, &text),
         Err(WordsFault::NoMemory) => end_out_of_memory(out),
     }
 }
@@ -106,6 +118,10 @@ fn carry_out<F: Folder, K: Sink, G: Gate + Sync, W: Threads + Wait + Sync>(
 /// - `live DOMAINS ROWS SCENARIO OWNERS RESULT CHANNELS TRANSCRIPT` does what `run` does, except that the file OWNERS says for each
 ///   round which stations stay. The stations' values are read and checked, but not used.
 /// - `verify-live DOMAINS ROWS SCENARIO OWNERS TRANSCRIPT` does what `verify` does, with the transcript of a live auction.
+/// - `show DOMAINS ROWS SCENARIO TRANSCRIPT RESULT CHANNELS` checks a transcript as `verify` does. It stores the result and the
+///   channels that the transcript certifies, in this order, and writes the summary.
+/// - `show-live DOMAINS ROWS SCENARIO OWNERS TRANSCRIPT RESULT CHANNELS` does what `show` does, with the transcript of a live
+///   auction.
 /// - `resume DOMAINS ROWS SCENARIO PREFIX RESULT CHANNELS TRANSCRIPT` reads the three inputs and the beginning of a transcript, cut
 ///   anywhere. It checks each complete step, continues the auction after these, and stores and writes what `run` does. The steps
 ///   that were read are kept.
@@ -168,15 +184,15 @@ pub fn auction_main<F: Folder, K: Sink, G: Gate + Sync, W: Threads + Wait + Sync
 ) -> Finish
     // How the program ends, case by case.
     ensures ends { ProgramEnds (plan_of (map string_bytes words.now)) (outside (F.modelled folder.old) (K.modelled out.old))
-        (outside (F.modelled folder.new) (K.modelled out.new)) result.status result.result result.below result.batch }
+        (outside (F.modelled folder.new) (K.modelled out.new)) result }
 
     // What the reader may rely on: one clause for each promise.
     ensures promises { ProgramPromises (plan_of (map string_bytes words.now)) (outside (F.modelled folder.old) (K.modelled out.old))
-        (outside (F.modelled folder.new) (K.modelled out.new)) result.status result.result result.below result.batch }
+        (outside (F.modelled folder.new) (K.modelled out.new)) result }
 
     // At which statuses the fault counts of the outside stay.
     ensures counted { AreFaultsCounted
         (outside (F.modelled folder.old) (K.modelled out.old)) (outside (F.modelled folder.new) (K.modelled out.new)) result.status }
 {
-    carry_out(rt, alloc, words, folder, out, gate)
+    answer(rt, alloc, words, folder, out, gate)
 }

@@ -9,7 +9,7 @@ use Rattle.clap.specs.Walk.{is_empty}
 use Rattle.clap.specs.ValueTests.{is_unsigned_in}
 use Rattle.clap.specs.declared.builder.value_parser.ValueParser.TheVariants.{Unsigned}
 use Rattle.clap.proofs.ValueTestLemmas.{Accepts-accepts, accepts-Accepts}
-use Rattle.command_words.specs.Words.{Command, run, check, verify, resume, seek, batch, make, export, import, ExportNames, ImportNames, InputNames, MakeNames, ResumeNames, RunNames, VerifyNames, batch_names, command_of, export_names, import_names, input_names, live_names, make_names, named_command, number_within, program_app, resume_names, run_names, seed_limit, seek_names, shown_by_names, size_limit, step_limit, step_named, verify_names, given_value}
+use Rattle.command_words.specs.Words.{Command, run, check, verify, resume, seek, batch, make, export, import, ExportNames, ImportNames, InputNames, MakeNames, ResumeNames, RunNames, VerifyNames, batch_names, command_of, export_names, import_names, input_names, live_names, make_names, named_command, number_within, program_app, resume_names, run_names, seed_limit, seek_names, size_limit, step_limit, step_named, verify_live_names, verify_names, given_value, show, show_names}
 
 number-in : (least most : ℕ) (text : List ℕ) → IsUnsignedIn least most text → number_within least most text ≡ Some (digits_value 10 (without_leading_plus text))
 number-in least most text h =
@@ -77,6 +77,7 @@ abbrev IsBounded : Command → Type 0
 IsBounded (run names) = ⊤
 IsBounded (check names) = ⊤
 IsBounded (verify names) = ⊤
+IsBounded (show names) = ⊤
 IsBounded (resume names) = names.run_files.inputs.owners ≡ None
 IsBounded (seek names) = ⊤
 IsBounded (batch names) = ⊤
@@ -155,13 +156,15 @@ found-bounded found =
     (if-all IsBounded (bytes_eq found.0 (codes "check")) _ _ (map-all IsBounded check (input_names rows) (each _ (input_names rows) (λ names. tt)))
     (if-all IsBounded (bytes_eq found.0 (codes "verify")) _ _ (map-all IsBounded verify (verify_names rows) (each _ (verify_names rows) (λ names. tt)))
     (if-all IsBounded (bytes_eq found.0 (codes "live")) _ _ (map-all IsBounded run (option_and_then (run_names rows) (live_names rows)) (each _ (option_and_then (run_names rows) (live_names rows)) (λ names. tt)))
-    (if-all IsBounded (bytes_eq found.0 (codes "verify-live")) _ _ (map-all IsBounded verify (option_and_then (shown_by_names rows) (live_names rows)) (each _ (option_and_then (shown_by_names rows) (live_names rows)) (λ names. tt)))
+    (if-all IsBounded (bytes_eq found.0 (codes "verify-live")) _ _ (map-all IsBounded verify (verify_live_names rows) (each _ (verify_live_names rows) (λ names. tt)))
+    (if-all IsBounded (bytes_eq found.0 (codes "show")) _ _ (map-all IsBounded show (option_and_then (show_names rows) (verify_names rows)) (each _ (option_and_then (show_names rows) (verify_names rows)) (λ names. tt)))
+    (if-all IsBounded (bytes_eq found.0 (codes "show-live")) _ _ (map-all IsBounded show (option_and_then (show_names rows) (verify_live_names rows)) (each _ (option_and_then (show_names rows) (verify_live_names rows)) (λ names. tt)))
     (if-all IsBounded (bytes_eq found.0 (codes "resume")) _ _ (map-all IsBounded resume (resume_names rows) (resume-bounded rows))
     (if-all IsBounded (bytes_eq found.0 (codes "seek")) _ _ (map-all IsBounded seek (seek_names rows) (each _ (seek_names rows) (λ names. tt)))
     (if-all IsBounded (bytes_eq found.0 (codes "batch")) _ _ (map-all IsBounded batch (batch_names rows) (each _ (batch_names rows) (λ names. tt)))
     (if-all IsBounded (bytes_eq found.0 (codes "make")) _ _ (map-all IsBounded make (make_names rows) (make-bounded rows))
     (if-all IsBounded (bytes_eq found.0 (codes "export")) _ _ (map-all IsBounded export (export_names rows) (export-bounded rows))
-    (if-all IsBounded (bytes_eq found.0 (codes "import")) _ None (map-all IsBounded import (import_names rows) (import-bounded rows)) tt))))))))))
+    (if-all IsBounded (bytes_eq found.0 (codes "import")) _ None (map-all IsBounded import (import_names rows) (import-bounded rows)) tt))))))))))))
 
 command-bounded : (words : List (List ℕ)) → MatchOption (command_of words) ⊤ IsBounded
 unfolding command_of

@@ -14,13 +14,14 @@ use Rattle.command_words.specs.declared.proof_words.ExportArgs.{ExportArgs}
 use Rattle.command_words.specs.declared.proof_words.ImportArgs.{ImportArgs}
 use Rattle.command_words.specs.declared.resume_words.ResumeArgs.{ResumeArgs}
 use Rattle.command_words.specs.declared.seek_words.SeekArgs.{SeekArgs}
+use Rattle.command_words.specs.declared.show_words.ShowArgs.{ShowArgs}
 use Rattle.command_words.specs.declared.run_words.Input.{Input}
 use Rattle.command_words.specs.declared.run_words.Input.TheVariants.{Domains, Rows, Scenario as ScenarioFile, Owners as OwnersFile, List as ListFile}
 use Rattle.command_words.specs.declared.run_words.InputArgs.{InputArgs}
 use Rattle.command_words.specs.declared.run_words.RunArgs.{RunArgs}
 use Rattle.command_words.specs.declared.run_words.VerifyArgs.{VerifyArgs}
 use Rattle.command_words.specs.declared.words.CommandArgs.{CommandArgs}
-use Rattle.command_words.specs.declared.words.CommandArgs.TheVariants.{Run, Check, Verify, Resume, Seek, Batch, Make, Export, Import}
+use Rattle.command_words.specs.declared.words.CommandArgs.TheVariants.{Run, Check, Verify, Show, Resume, Seek, Batch, Make, Export, Import}
 use Rattle.command_words.specs.declared.words.WordsFault.{WordsFault}
 use Rattle.command_words.specs.declared.words.WordsFault.TheVariants.{NoMemory, Refused}
 
@@ -42,6 +43,13 @@ pub record RunNames : Type 0 where
 pub record VerifyNames : Type 0 where
   pub inputs : InputNames
   pub transcript : List ℕ
+
+-- The names of the files of `show` or, with an owners' file, of `show-live`: those of the auction, and of the result and the channels
+-- that it stores.
+pub record ShowNames : Type 0 where
+  pub shown : VerifyNames
+  pub result : List ℕ
+  pub channels : List ℕ
 
 -- The names of the files of `resume`: those of a run, and the beginning of a transcript from which the auction continues.
 pub record ResumeNames : Type 0 where
@@ -100,6 +108,7 @@ pub data Command : Type 0 where
   run : RunNames → Command
   check : InputNames → Command
   verify : VerifyNames → Command
+  show : ShowNames → Command
   resume : ResumeNames → Command
   seek : SeekNames → Command
   batch : BatchNames → Command
@@ -154,9 +163,21 @@ shown_ids = input_ids ++ codes "TRANSCRIPT" ∷ []
 abbrev pub verify_app : App
 verify_app = with_required (new_app (codes "verify")) shown_ids
 
+-- The arguments that name the files of a live auction that was carried out.
+abbrev pub shown_live_ids : List Text
+shown_live_ids = live_ids ++ codes "TRANSCRIPT" ∷ []
+
 -- The command `verify-live`.
 abbrev pub verify_live_app : App
-verify_live_app = with_required (new_app (codes "verify-live")) (live_ids ++ codes "TRANSCRIPT" ∷ [])
+verify_live_app = with_required (new_app (codes "verify-live")) shown_live_ids
+
+-- The command `show`.
+abbrev pub show_app : App
+show_app = with_required (new_app (codes "show")) (shown_ids ++ codes "RESULT" ∷ codes "CHANNELS" ∷ [])
+
+-- The command `show-live`.
+abbrev pub show_live_app : App
+show_live_app = with_required (new_app (codes "show-live")) (shown_live_ids ++ codes "RESULT" ∷ codes "CHANNELS" ∷ [])
 
 -- The command `resume`.
 abbrev pub resume_app : App
@@ -218,9 +239,13 @@ app_with_reading = with_subcommand (with_subcommand (with_subcommand app_without
 abbrev pub app_with_live_reading : App
 app_with_live_reading = with_subcommand (with_subcommand app_with_reading live_app.top) verify_live_app.top
 
+-- The same with the commands that store what a transcript shows.
+abbrev pub app_with_show : App
+app_with_show = with_subcommand (with_subcommand app_with_live_reading show_app.top) show_live_app.top
+
 -- The same with the command that continues an auction.
 abbrev pub app_with_resume : App
-app_with_resume = with_subcommand app_with_live_reading resume_app.top
+app_with_resume = with_subcommand app_with_show resume_app.top
 
 -- The same with the command that finds the least top channel.
 abbrev pub app_with_seek : App
@@ -270,6 +295,17 @@ shown_by_names rows inputs = given_value rows (codes "TRANSCRIPT") (λ transcrip
 -- The names of the files of `verify`, if all are given.
 abbrev pub verify_names : List Row → Option VerifyNames
 verify_names rows = option_and_then (shown_by_names rows) (input_names rows)
+
+-- The names of the files of `verify-live`, if all are given.
+abbrev pub verify_live_names : List Row → Option VerifyNames
+verify_live_names rows = option_and_then (shown_by_names rows) (live_names rows)
+
+-- The names of these files of an auction and of the result and the channels, if all are given.
+abbrev pub show_names : List Row → VerifyNames → Option ShowNames
+show_names rows shown =
+    given_value rows (codes "RESULT") (λ result.
+    given_value rows (codes "CHANNELS") (λ channels.
+    Some (record { shown = shown; result = result; channels = channels })))
 
 -- The names of the files of `resume`, if all are given.
 abbrev pub resume_names : List Row → Option ResumeNames
@@ -341,13 +377,15 @@ named_command found =
     else (if bytes_eq found.0 (codes "check") then option_map check (input_names found.1)
     else (if bytes_eq found.0 (codes "verify") then option_map verify (verify_names found.1)
     else (if bytes_eq found.0 (codes "live") then option_map run (option_and_then (run_names found.1) (live_names found.1))
-    else (if bytes_eq found.0 (codes "verify-live") then option_map verify (option_and_then (shown_by_names found.1) (live_names found.1))
+    else (if bytes_eq found.0 (codes "verify-live") then option_map verify (verify_live_names found.1)
+    else (if bytes_eq found.0 (codes "show") then option_map show (option_and_then (show_names found.1) (verify_names found.1))
+    else (if bytes_eq found.0 (codes "show-live") then option_map show (option_and_then (show_names found.1) (verify_live_names found.1))
     else (if bytes_eq found.0 (codes "resume") then option_map resume (resume_names found.1)
     else (if bytes_eq found.0 (codes "seek") then option_map seek (seek_names found.1)
     else (if bytes_eq found.0 (codes "batch") then option_map batch (batch_names found.1)
     else (if bytes_eq found.0 (codes "make") then option_map make (make_names found.1)
     else (if bytes_eq found.0 (codes "export") then option_map export (export_names found.1)
-    else (if bytes_eq found.0 (codes "import") then option_map import (import_names found.1) else None))))))))))
+    else (if bytes_eq found.0 (codes "import") then option_map import (import_names found.1) else None))))))))))))
 
 -- The command that the words are, the first of which is the program's name. `None` if `clap` reports a fault, or if an argument has
 -- no value.
@@ -357,81 +395,61 @@ command_of words =
 
 -- ---- names given twice
 
--- The name of the owners' file, if there is one.
-abbrev pub owners_given : Option (List ℕ) → List (List ℕ)
-owners_given None = []
-owners_given (Some owners) = owners ∷ []
-
--- The names of the files of `run` or `live`: first those that are stored, then those that are read.
-abbrev pub run_names_given : RunNames → List (List ℕ)
-run_names_given names = names.result ∷ names.channels ∷ names.transcript
-    ∷ names.inputs.domains ∷ names.inputs.rows ∷ names.inputs.scenario ∷ owners_given names.inputs.owners
-
--- The names of the files that are stored, in the order of the arguments.
+-- The names of the files that a run stores, in the order of the arguments.
 abbrev pub output_names : RunNames → List (List ℕ)
 output_names names = names.result ∷ names.channels ∷ names.transcript ∷ []
-
--- Whether the name is given more than once.
-abbrev pub is_repeated_in : List ℕ → RunNames → Bool
-is_repeated_in name names = nat_lt 1 (count_by (bytes_eq name) (run_names_given names))
-
--- The first output name that is given more than once.
-unfoldable pub repeated_output : RunNames → Option (List ℕ)
-repeated_output names = find (λ name. is_repeated_in name names) (output_names names)
 
 -- The names of the files that `make` stores, in the order of its arguments.
 abbrev pub make_output_names : MakeNames → List (List ℕ)
 make_output_names names = names.outputs.domains ∷ names.outputs.rows ∷ names.outputs.scenario ∷ []
 
+-- The names of the input files. Without an owners' file, the scenario's name stands in for it.
+abbrev pub names_read : InputNames → List (List ℕ)
+names_read names = names.domains ∷ names.rows ∷ names.scenario ∷ name_of names OwnersFile ∷ []
+
+-- The names of files to store in the words of the command, in the order of its arguments. Those that `batch` stores are in its list.
+abbrev pub stored_by : Command → List (List ℕ)
+stored_by (run names) = output_names names
+stored_by (check names) = []
+stored_by (verify names) = []
+stored_by (show names) = names.result ∷ names.channels ∷ []
+stored_by (resume names) = output_names names.run_files
+stored_by (seek names) = names.channels ∷ []
+stored_by (batch names) = []
+stored_by (make names) = make_output_names names
+stored_by (export names) = names.formula ∷ []
+stored_by (import names) = names.result ∷ names.transcript ∷ []
+
+-- The names of the files that the command reads, if its words name a file to store; else none.
+abbrev pub read_beside : Command → List (List ℕ)
+read_beside (run names) = names_read names.inputs
+read_beside (check names) = []
+read_beside (verify names) = []
+read_beside (show names) = names.shown.transcript ∷ names_read names.shown.inputs
+read_beside (resume names) = names.prefix ∷ names_read names.run_files.inputs
+read_beside (seek names) = names.domains ∷ names.rows ∷ names.scenario ∷ []
+read_beside (batch names) = []
+read_beside (make names) = []
+read_beside (export names) = names.shown.transcript ∷ names_read names.shown.inputs
+read_beside (import names) = names.proof ∷ names.shown.transcript ∷ names_read names.shown.inputs
+
 -- Whether the name is more than once among these.
 abbrev pub is_repeated_among : List (List ℕ) → List ℕ → Bool
 is_repeated_among given name = nat_lt 1 (count_by (bytes_eq name) given)
 
--- The first name of `make` that is given more than once.
-unfoldable pub repeated_made : MakeNames → Option (List ℕ)
-repeated_made names = find (is_repeated_among (make_output_names names)) (make_output_names names)
+-- The first of these names to store that is given again, to store or to read.
+unfoldable pub first_repeated : List (List ℕ) → List (List ℕ) → Option (List ℕ)
+first_repeated stored read = find (is_repeated_among (stored ++ read)) stored
 
--- The names of the files of an auction that was carried out, in the order of the arguments.
-abbrev pub shown_names : VerifyNames → List (List ℕ)
-shown_names names = names.inputs.domains ∷ names.inputs.rows ∷ names.inputs.scenario ∷ names.transcript ∷ []
-
--- The names of the files of `export`, in the order of its arguments.
-abbrev pub exported_names : ExportNames → List (List ℕ)
-exported_names names = shown_names names.shown ++ names.formula ∷ []
-
--- The name of the file that `export` stores, if it is given more than once.
-unfoldable pub repeated_export : ExportNames → Option (List ℕ)
-repeated_export names = find (is_repeated_among (exported_names names)) (names.formula ∷ [])
-
--- The names of the files of `import`, in the order of its arguments.
-abbrev pub imported_names : ImportNames → List (List ℕ)
-imported_names names = shown_names names.shown ++ names.proof ∷ names.result ∷ names.transcript ∷ []
-
--- The first name of a file that `import` stores and that is given more than once.
-unfoldable pub repeated_import : ImportNames → Option (List ℕ)
-repeated_import names = find (is_repeated_among (imported_names names)) (names.result ∷ names.transcript ∷ [])
-
--- The names of the files of `resume`: first those that are stored, then those that are read.
-abbrev pub resumed_names : ResumeNames → List (List ℕ)
-resumed_names names = names.run_files.result ∷ names.run_files.channels ∷ names.run_files.transcript
-    ∷ names.run_files.inputs.domains ∷ names.run_files.inputs.rows ∷ names.run_files.inputs.scenario ∷ names.prefix ∷ []
-
--- The first name of a file that `resume` stores and that is given more than once.
-unfoldable pub repeated_resume : ResumeNames → Option (List ℕ)
-repeated_resume names = find (is_repeated_among (resumed_names names)) (output_names names.run_files)
+-- The first name of a file that the command stores and that is given again. Names are compared byte by byte, so `a` and `./a`
+-- differ. Two names of files to read may be equal.
+abbrev pub repeated_by : Command → Option (List ℕ)
+repeated_by command = first_repeated (stored_by command) (read_beside command)
 
 -- The names of the files that `resume` reads, as those of an auction that was carried out; the beginning of a transcript takes the
 -- transcript's place.
 abbrev pub resume_input_names : ResumeNames → VerifyNames
 resume_input_names names = record { inputs = names.run_files.inputs; transcript = names.prefix }
-
--- The names of the files of `seek`, in the order of its arguments.
-abbrev pub seek_file_names : SeekNames → List (List ℕ)
-seek_file_names names = names.domains ∷ names.rows ∷ names.scenario ∷ names.channels ∷ []
-
--- The name of the file that `seek` stores, if it is given more than once.
-unfoldable pub repeated_seek : SeekNames → Option (List ℕ)
-repeated_seek names = find (is_repeated_among (seek_file_names names)) (names.channels ∷ [])
 
 -- The input files of `seek`; there is no owners' file among them.
 abbrev pub seek_inputs : SeekNames → InputNames
@@ -460,6 +478,10 @@ run_names_view args = record {
 -- The names of the files of `verify` or `verify-live` in the code's value.
 abbrev pub verify_view : VerifyArgs → VerifyNames
 verify_view args = record { inputs = inputs_view args.inputs; transcript = args.transcript.now }
+
+-- The names of the files of `show` or `show-live` in the code's value.
+abbrev pub show_view : ShowArgs → ShowNames
+show_view args = record { shown = verify_view args.shown; result = args.result.now; channels = args.channels.now }
 
 -- The names of the files of `resume` in the code's value.
 abbrev pub resume_view : ResumeArgs → ResumeNames
@@ -501,6 +523,7 @@ abbrev pub command_view : CommandArgs → Command
 command_view (Run args) = run (run_names_view args)
 command_view (Check args) = check (inputs_view args)
 command_view (Verify args) = verify (verify_view args)
+command_view (Show args) = show (show_view args)
 command_view (Resume args) = resume (resume_view args)
 command_view (Seek args) = seek (seek_view args)
 command_view (Batch args) = batch (batch_view args)

@@ -58,6 +58,12 @@ pub(crate) const VERIFIED_TRANSCRIPT: FileArg<'static> = FileArg {
     help: "The transcript of an auction of these inputs",
 };
 
+// The transcript of a live auction that was carried out.
+pub(crate) const VERIFIED_LIVE_TRANSCRIPT: FileArg<'static> = FileArg {
+    id: "TRANSCRIPT",
+    help: "The transcript of a live auction of these inputs",
+};
+
 // Returns a required argument with its line of help.
 pub(crate) fn required<'a>(alloc: Global, name: &'a str, help: &'a str) -> Arg<'a>
     ensures rule { rule_of result ≡ required_rule name.entry.now }

@@ -3,10 +3,10 @@
 ghost use Rattle.std.specs.Prelude.{◌≡◌, IfOk, false, option_map};
 ghost use Rattle.clap.specs.Words.{app_of, found_of, rows_of, rule_of};
 ghost use Rattle.clap.specs.declared.builder.command.Command.TheViews.{out-Command};
-ghost use Rattle.command_words.specs.Words.{is_repeated_among, make_output_names, make_app, make_names, make_view, number_rule, number_within, numbers_app, repeated_made, seed_limit};
+ghost use Rattle.command_words.specs.Words.{make_app, make_names, make_view, number_rule, number_within, numbers_app, seed_limit};
 
 use crate::file_args::{FileArg, required, with_files};
-use crate::run_words::{InputArgs, input_args, times_in, value_of};
+use crate::run_words::{InputArgs, input_args, value_of};
 use clap::builder::ValueParser;
 use clap::{Arg, ArgMatches, Command};
 use scenario_make::limits::MOST_GENERATED;
@@ -21,35 +21,6 @@ pub struct MakeArgs<'a> {
     pub size: u32,
     /// The files to store: the domains, the rows and the scenario.
     pub outputs: InputArgs<'a>,
-}
-
-impl<'a> MakeArgs<'a> {
-    /// Returns the first name, in the order of the arguments, that is given more than once. Names are compared byte by byte, so `a`
-    /// and `./a` differ.
-    #[tactic(auto, unfolding(crate::specs::Words::repeated_made))]
-    pub fn given_twice(&self) -> Option<&'a str>
-        ensures { option_map (λ name. name.now) result ≡ repeated_made (make_view self.now) }
-    {
-        let outputs = self.outputs;
-        if self.is_repeated(outputs.domains) {
-            Some(outputs.domains)
-        } else if self.is_repeated(outputs.rows) {
-            Some(outputs.rows)
-        } else if self.is_repeated(outputs.scenario) {
-            Some(outputs.scenario)
-        } else {
-            None
-        }
-    }
-
-    // Whether this name is given more than once.
-    fn is_repeated(&self, name: &str) -> bool
-        ensures { result ≡ is_repeated_among (make_output_names (make_view self.now)) name.now }
-    {
-        let outputs = self.outputs;
-        let given = [outputs.domains, outputs.rows, outputs.scenario];
-        times_in(&given, name) > 1
-    }
 }
 
 // Returns a required argument that is a number from `least` to `most`, with its line of help.

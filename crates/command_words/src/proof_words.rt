@@ -3,13 +3,13 @@
 ghost use Rattle.std.specs.Prelude.{◌≡◌, IfOk, false, option_map};
 ghost use Rattle.clap.specs.Words.{app_of, found_of, rows_of};
 ghost use Rattle.clap.specs.declared.builder.command.Command.TheViews.{out-Command};
-ghost use Rattle.command_words.specs.Words.{export_app, export_names, export_view, exported_names, import_app, import_names, import_view, imported_names, is_repeated_among, repeated_export, repeated_import, step_app, step_named};
+ghost use Rattle.command_words.specs.Words.{export_app, export_names, export_view, import_app, import_names, import_view, step_app, step_named};
 
 use crate::file_args::{
     DOMAINS, FileArg, ROWS, SCENARIO, VERIFIED_TRANSCRIPT, file_command, with_files,
 };
 use crate::make_words::{count_in, number};
-use crate::run_words::{VerifyArgs, times_in, value_of, verify_args};
+use crate::run_words::{VerifyArgs, value_of, verify_args};
 use clap::{ArgMatches, Command};
 use std::alloc::{AllocError, Global};
 
@@ -37,72 +37,6 @@ pub struct ImportArgs<'a> {
     pub result: &'a str,
     /// The file for the transcript with the step settled.
     pub transcript: &'a str,
-}
-
-impl<'a> ExportArgs<'a> {
-    /// Returns the name of the file to store, if it equals another given name. Names are compared byte by byte, so `a` and `./a`
-    /// differ. Two names of files to read may be equal.
-    #[tactic(auto, unfolding(crate::specs::Words::repeated_export))]
-    pub fn given_twice(&self) -> Option<&'a str>
-        ensures { option_map (λ name. name.now) result ≡ repeated_export (export_view self.now) }
-    {
-        if self.is_repeated(self.formula) {
-            Some(self.formula)
-        } else {
-            None
-        }
-    }
-
-    // Whether this name is given more than once.
-    fn is_repeated(&self, name: &str) -> bool
-        ensures { result ≡ is_repeated_among (exported_names (export_view self.now)) name.now }
-    {
-        let shown = self.shown;
-        let inputs = shown.inputs;
-        let given = [
-            inputs.domains,
-            inputs.rows,
-            inputs.scenario,
-            shown.transcript,
-            self.formula,
-        ];
-        times_in(&given, name) > 1
-    }
-}
-
-impl<'a> ImportArgs<'a> {
-    /// Returns the first name of a file to store, in the order of the arguments, that equals another given name. Names are compared
-    /// byte by byte, so `a` and `./a` differ. Two names of files to read may be equal.
-    #[tactic(auto, unfolding(crate::specs::Words::repeated_import))]
-    pub fn given_twice(&self) -> Option<&'a str>
-        ensures { option_map (λ name. name.now) result ≡ repeated_import (import_view self.now) }
-    {
-        if self.is_repeated(self.result) {
-            Some(self.result)
-        } else if self.is_repeated(self.transcript) {
-            Some(self.transcript)
-        } else {
-            None
-        }
-    }
-
-    // Whether this name is given more than once.
-    fn is_repeated(&self, name: &str) -> bool
-        ensures { result ≡ is_repeated_among (imported_names (import_view self.now)) name.now }
-    {
-        let shown = self.shown;
-        let inputs = shown.inputs;
-        let given = [
-            inputs.domains,
-            inputs.rows,
-            inputs.scenario,
-            shown.transcript,
-            self.proof,
-            self.result,
-            self.transcript,
-        ];
-        times_in(&given, name) > 1
-    }
 }
 
 // Returns a command of this name that takes the files of an auction and the number of one of its steps.

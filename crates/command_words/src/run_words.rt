@@ -1,16 +1,15 @@
 //! The arguments of `run`, `live`, `check`, `verify` and `verify-live`: the names of an auction's files. Other commands share these
 //! arguments.
 
-ghost use Rattle.std.specs.Prelude.{◌≡◌, IfOk, count_by, false, map, option_and_then, option_map};
-ghost use Rattle.std.specs.Str.{bytes_eq};
+ghost use Rattle.std.specs.Prelude.{◌≡◌, IfOk, false, option_and_then, option_map};
 ghost use Rattle.clap.specs.Words.{app_of, first_of, found_of, rows_of};
 ghost use Rattle.clap.specs.declared.builder.command.Command.TheViews.{out-Command};
 ghost use Rattle.command_words.specs.Words.{name_of};
-ghost use Rattle.command_words.specs.Words.{check_app, input_names, inputs_view, is_repeated_in, live_app, live_names, run_names_view, repeated_output, run_app, run_names, shown_by_names, verify_app, verify_live_app, verify_names, verify_view};
+ghost use Rattle.command_words.specs.Words.{check_app, input_names, inputs_view, live_app, live_names, run_names_view, run_app, run_names, shown_by_names, verify_app, verify_live_app, verify_live_names, verify_names, verify_view};
 
 use crate::file_args::{
-    CHANNELS, DOMAINS, FileArg, OWNERS, RESULT, ROWS, SCENARIO, TRANSCRIPT, VERIFIED_TRANSCRIPT,
-    file_command,
+    CHANNELS, DOMAINS, OWNERS, RESULT, ROWS, SCENARIO, TRANSCRIPT, VERIFIED_LIVE_TRANSCRIPT,
+    VERIFIED_TRANSCRIPT, file_command,
 };
 use clap::{ArgMatches, Command};
 use std::alloc::{AllocError, Global};
@@ -77,58 +76,6 @@ impl<'a> InputArgs<'a> {
     }
 }
 
-impl<'a> RunArgs<'a> {
-    /// Returns the first output name, in the order of the arguments, that equals another given name. Names are compared byte by
-    /// byte, so `a` and `./a` differ. Two input names may be equal.
-    #[tactic(auto, unfolding(crate::specs::Words::repeated_output))]
-    pub fn given_twice(&self) -> Option<&'a str>
-        ensures { option_map (λ name. name.now) result ≡ repeated_output (run_names_view self.now) }
-    {
-        if self.is_repeated(self.result) {
-            Some(self.result)
-        } else if self.is_repeated(self.channels) {
-            Some(self.channels)
-        } else if self.is_repeated(self.transcript) {
-            Some(self.transcript)
-        } else {
-            None
-        }
-    }
-
-    // Whether this name is given more than once.
-    fn is_repeated(&self, name: &str) -> bool
-        ensures { result ≡ is_repeated_in name.now (run_names_view self.now) }
-    {
-        let InputArgs {
-            domains,
-            rows,
-            scenario,
-            owners,
-        } = self.inputs;
-        let (result, channels, transcript) = (self.result, self.channels, self.transcript);
-        let times = match owners {
-            Some(owners) => times_in(
-                &[
-                    result, channels, transcript, domains, rows, scenario, owners,
-                ],
-                name,
-            ),
-            None => times_in(
-                &[result, channels, transcript, domains, rows, scenario],
-                name,
-            ),
-        };
-        times > 1
-    }
-}
-
-// Returns how many of these names equal this one.
-pub(crate) fn times_in(names: &[&str], name: &str) -> usize
-    ensures { result ≡ count_by (bytes_eq name.now) (map (λ n. n.now) names.now) }
-{
-    names.iter().filter(|other| name == **other).count()
-}
-
 pub(crate) fn run_command<'a>(alloc: Global) -> Result<Command<'a>, AllocError>
     ensures app { IfOk result (λ c. app_of c ≡ run_app) }
     ensures local { IfOk result (λ c. (out-Command c).has_globals ≡ false) }
@@ -175,16 +122,8 @@ pub(crate) fn verify_live_command<'a>(alloc: Global) -> Result<Command<'a>, Allo
     ensures local { IfOk result (λ c. (out-Command c).has_globals ≡ false) }
 {
     let about = "Checks a live auction's transcript and prints its result";
-    let shown = FileArg {
-        id: "TRANSCRIPT",
-        help: "The transcript of a live auction of these inputs",
-    };
-    file_command(
-        alloc,
-        "verify-live",
-        about,
-        &[DOMAINS, ROWS, SCENARIO, OWNERS, shown],
-    )
+    let files = [DOMAINS, ROWS, SCENARIO, OWNERS, VERIFIED_LIVE_TRANSCRIPT];
+    file_command(alloc, "verify-live", about, &files)
 }
 
 // Returns the first value of an argument.
@@ -262,7 +201,7 @@ pub(crate) fn verify_args<'a>(matches: &ArgMatches<'a>) -> Option<VerifyArgs<'a>
 
 // Returns the arguments of `verify-live`.
 pub(crate) fn verify_live_args<'a>(matches: &ArgMatches<'a>) -> Option<VerifyArgs<'a>>
-    ensures { option_map verify_view result ≡ option_and_then (shown_by_names (rows_of (found_of matches.now))) (live_names (rows_of (found_of matches.now))) }
+    ensures { option_map verify_view result ≡ verify_live_names (rows_of (found_of matches.now)) }
 {
     shown_args(matches, live_args(matches)?)
 }

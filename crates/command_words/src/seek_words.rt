@@ -3,10 +3,10 @@
 ghost use Rattle.std.specs.Prelude.{◌≡◌, IfOk, false, option_map};
 ghost use Rattle.clap.specs.Words.{app_of, found_of, rows_of};
 ghost use Rattle.clap.specs.declared.builder.command.Command.TheViews.{out-Command};
-ghost use Rattle.command_words.specs.Words.{inputs_view, is_repeated_among, repeated_seek, seek_app, seek_inputs, seek_names, seek_view, seek_file_names};
+ghost use Rattle.command_words.specs.Words.{inputs_view, seek_app, seek_inputs, seek_names, seek_view};
 
 use crate::file_args::{DOMAINS, FileArg, ROWS, SCENARIO, file_command};
-use crate::run_words::{InputArgs, input_args, times_in, value_of};
+use crate::run_words::{InputArgs, input_args, value_of};
 use clap::{ArgMatches, Command};
 use std::alloc::{AllocError, Global};
 
@@ -24,27 +24,6 @@ pub struct SeekArgs<'a> {
 }
 
 impl<'a> SeekArgs<'a> {
-    /// Returns the name of the file to store, if it equals another given name. Names are compared byte by byte, so `a` and `./a`
-    /// differ. Two names of files to read may be equal.
-    #[tactic(auto, unfolding(crate::specs::Words::repeated_seek))]
-    pub fn given_twice(&self) -> Option<&'a str>
-        ensures { option_map (λ name. name.now) result ≡ repeated_seek (seek_view self.now) }
-    {
-        if self.is_repeated(self.channels) {
-            Some(self.channels)
-        } else {
-            None
-        }
-    }
-
-    // Whether this name is given more than once.
-    fn is_repeated(&self, name: &str) -> bool
-        ensures { result ≡ is_repeated_among (seek_file_names (seek_view self.now)) name.now }
-    {
-        let given = [self.domains, self.rows, self.scenario, self.channels];
-        times_in(&given, name) > 1
-    }
-
     /// Returns the input files. There is no owners' file among them.
     pub fn inputs(&self) -> InputArgs<'a>
         ensures { inputs_view result ≡ seek_inputs (seek_view self.now) }

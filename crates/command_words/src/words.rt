@@ -4,8 +4,8 @@ ghost use Rattle.std.specs.Prelude.{◌≡◌, ◌≢◌, IfErr, IfOk, IsOkAnd, 
 ghost use Rattle.std.specs.Str.{bytes_eq};
 ghost use Rattle.clap.specs.Words.{app_of, found_of, kind_of, rows_of, subcommand_rows_of, with_subcommand};
 ghost use Rattle.clap.specs.declared.builder.command.Command.TheViews.{out-Command};
-ghost use Rattle.command_words.specs.Words.{IsRefused, app_without_commands, app_with_batch, command_of, command_view, app_with_live_reading, named_command, program_app, app_with_reading, app_with_resume, app_with_seek};
-ghost use Rattle.command_words.specs.Words.{batch, batch_names, export, export_names, import, import_names, make, make_names, resume, resume_names, seek, seek_names};
+ghost use Rattle.command_words.specs.Words.{IsRefused, app_without_commands, app_with_batch, command_of, command_view, app_with_live_reading, named_command, program_app, app_with_reading, app_with_resume, app_with_seek, app_with_show};
+ghost use Rattle.command_words.specs.Words.{batch, batch_names, export, export_names, import, import_names, make, make_names, resume, resume_names, seek, seek_names, show, show_names, verify_live_names, verify_names};
 
 use crate::batch_words::{BatchArgs, batch_args, batch_command};
 use crate::make_words::{MakeArgs, make_args, make_command};
@@ -19,6 +19,7 @@ use crate::run_words::{
     verify_live_command,
 };
 use crate::seek_words::{SeekArgs, seek_args, seek_command};
+use crate::show_words::{ShowArgs, show_args, show_command, show_live_args, show_live_command};
 use clap::error::ErrorKind;
 use clap::{ArgMatches, Command, Error};
 use std::alloc::{AllocError, Global};
@@ -32,6 +33,8 @@ pub enum CommandArgs<'a> {
     Check(InputArgs<'a>),
     /// Verify a transcript, of an auction by the stations' values or of a live one.
     Verify(VerifyArgs<'a>),
+    /// Store what a transcript shows, of an auction by the stations' values or of a live one.
+    Show(ShowArgs<'a>),
     /// Continue an auction from the beginning of its transcript.
     Resume(ResumeArgs<'a>),
     /// Find the least top channel.
@@ -100,12 +103,21 @@ fn with_live_reading_commands<'a>(alloc: Global) -> Result<Command<'a>, AllocErr
     with_command(live, verify_live_command(alloc))
 }
 
+// Returns the same with the commands that store what a transcript shows.
+fn with_show_commands<'a>(alloc: Global) -> Result<Command<'a>, AllocError>
+    ensures app { IfOk result (λ c. app_of c ≡ app_with_show) }
+    ensures local { IfOk result (λ c. (out-Command c).has_globals ≡ false) }
+{
+    let shown = with_command(with_live_reading_commands(alloc)?, show_command(alloc))?;
+    with_command(shown, show_live_command(alloc))
+}
+
 // Returns the same with the command that continues an auction.
 fn with_resume_command<'a>(alloc: Global) -> Result<Command<'a>, AllocError>
     ensures app { IfOk result (λ c. app_of c ≡ app_with_resume) }
     ensures local { IfOk result (λ c. (out-Command c).has_globals ≡ false) }
 {
-    let program = with_live_reading_commands(alloc)?;
+    let program = with_show_commands(alloc)?;
     with_command(program, resume_command(alloc))
 }
 
@@ -166,14 +178,20 @@ fn named_args<'a>(name: &str, inner: &ArgMatches<'a>) -> Option<CommandArgs<'a>>
 // Returns the command of this name, with its arguments, for the names that `named_args` leaves.
 fn remaining_args<'a>(name: &str, inner: &ArgMatches<'a>) -> Option<CommandArgs<'a>>
     ensures { let rows = rows_of (found_of inner.now) in
-        option_map command_view result ≡ (if bytes_eq name.now (codes "resume") then option_map resume (resume_names rows)
+        option_map command_view result ≡ (if bytes_eq name.now (codes "show") then option_map show (option_and_then (show_names rows) (verify_names rows))
+        else (if bytes_eq name.now (codes "show-live") then option_map show (option_and_then (show_names rows) (verify_live_names rows))
+        else (if bytes_eq name.now (codes "resume") then option_map resume (resume_names rows)
         else (if bytes_eq name.now (codes "seek") then option_map seek (seek_names rows)
         else (if bytes_eq name.now (codes "batch") then option_map batch (batch_names rows)
         else (if bytes_eq name.now (codes "make") then option_map make (make_names rows)
         else (if bytes_eq name.now (codes "export") then option_map export (export_names rows)
-        else (if bytes_eq name.now (codes "import") then option_map import (import_names rows) else None)))))) }
+        else (if bytes_eq name.now (codes "import") then option_map import (import_names rows) else None)))))))) }
 {
-    if name == "resume" {
+    if name == "show" {
+        show_args(inner).map(CommandArgs::Show)
+    } else if name == "show-live" {
+        show_live_args(inner).map(CommandArgs::Show)
+    } else if name == "resume" {
         resume_args(inner).map(CommandArgs::Resume)
     } else if name == "seek" {
         seek_args(inner).map(CommandArgs::Seek)
@@ -227,6 +245,8 @@ fn fault_from(alloc: Global, error: &Error) -> WordsFault
 /// - `verify DOMAINS ROWS SCENARIO TRANSCRIPT`
 /// - `live DOMAINS ROWS SCENARIO OWNERS RESULT CHANNELS TRANSCRIPT`
 /// - `verify-live DOMAINS ROWS SCENARIO OWNERS TRANSCRIPT`
+/// - `show DOMAINS ROWS SCENARIO TRANSCRIPT RESULT CHANNELS`
+/// - `show-live DOMAINS ROWS SCENARIO OWNERS TRANSCRIPT RESULT CHANNELS`
 /// - `resume DOMAINS ROWS SCENARIO PREFIX RESULT CHANNELS TRANSCRIPT`
 /// - `seek DOMAINS ROWS SCENARIO CHANNELS`
 /// - `batch DOMAINS ROWS LIST`

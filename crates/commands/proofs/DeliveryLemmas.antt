@@ -1,8 +1,9 @@
 -- What a delivery leaves, from the results of its steps.
 use Rattle.std.proofs.Common.{◌≡◌, ◌≢◌, ◌<◌, ◌≤◌, ◌∙◌, ℕ, true, inl, inr, List, [], ◌∷◌, ◌++◌, length, map, take, refl, sym, ap, subst, arith, Option, Some, None}
-use Rattle.std.specs.Prelude.{Ok, Err, MatchOption, slice_get, suc, zero}
+use Rattle.std.specs.Prelude.{Contains, Ok, Err, MatchOption, slice_get, suc, zero}
 use Rattle.std.proofs.lemmas.Bool.{true≢false}
 use Rattle.std.proofs.lemmas.List.Elements.{All-cons, All-head, All-nil, All-tail}
+use Rattle.pack_defs.proofs.Members.{Contains-here, Contains-there}
 use Rattle.outside_io.specs.Faults.{HasRisen}
 use Rattle.outside_io.specs.StoreAll.{AreAllStored as AllStoredBy, FailsOne, StopsAt, StoresOne, stored_file}
 use Rattle.outside_io.specs.Models.{FolderModel, SinkModel}
@@ -44,7 +45,7 @@ pub data Ended (xs : List NamedText) (summary : List ℕ) (done : ℕ) (before a
   Both : status ≡ done → LeavesAll xs before after → Writes before.held after.held summary (Ok tt) → Ended xs summary done before after status
   NotSaid : status ≡ 4 → LeavesAll xs before after → HasRisen before.sink_faults after.sink_faults → before.sure < length summary →
       IsLinePrinted before after summary → Ended xs summary done before after status
-  NotStored : (x : NamedText) → status ≡ 4 → LeavesPart xs x before after → HasRisen before.faults after.faults → before.steady ≢ true →
+  NotStored : (x : NamedText) → Contains xs x → status ≡ 4 → LeavesPart xs x before after → HasRisen before.faults after.faults → before.steady ≢ true →
       IsLinePrinted before after (unwritten_line x.name) → Ended xs summary done before after status
   OutOfRoom : (x : NamedText) → status ≡ 8 → LeavesPart xs x before after → IsLinePrinted before after memory_line →
       Ended xs summary done before after status
@@ -141,8 +142,8 @@ one-more x xs summary done before next after status s (Both is all writes) =
     Both is (all-more x xs before next after s all) (subst (λ z. Writes z after.held summary (Ok tt)) s.held writes)
 one-more x xs summary done before next after status s (NotSaid four all rises less said) =
     NotSaid four (all-more x xs before next after s all) (subst (λ z. HasRisen z after.sink_faults) s.sink_faults rises) (subst (λ z. z < length summary) s.sure less) (rw (s.held, s.sink_faults) at said)
-one-more x xs summary done before next after status s (NotStored y four part rises unsteady said) =
-    NotStored y four (up-more x y xs before next after s part) (rises-before before.faults next.faults after.faults s.faults rises) (λ steady. unsteady (s.steady ∙ steady)) (rw (s.held, s.sink_faults) at said)
+one-more x xs summary done before next after status s (NotStored y among four part rises unsteady said) =
+    NotStored y (Contains-there x y xs among) four (up-more x y xs before next after s part) (rises-before before.faults next.faults after.faults s.faults rises) (λ steady. unsteady (s.steady ∙ steady)) (rw (s.held, s.sink_faults) at said)
 one-more x xs summary done before next after status s (OutOfRoom y eight part said) =
     OutOfRoom y eight (up-more x y xs before next after s part) (rw (s.held, s.sink_faults) at said)
 
@@ -150,7 +151,7 @@ pub ended-of : (xs : List NamedText) (summary : List ℕ) (done : ℕ) (before a
 ended-of [] summary done before after status (Written is same writes) = Both is (all-none before after same) writes
 ended-of [] summary done before after status (CutShort four same rises less said) = NotSaid four (all-none before after same) rises less said
 ended-of (x ∷ xs) summary done before after status (inl d) = one-more x xs summary done before d.0 after status d.1 (ended-of xs summary done d.0 after status d.2)
-ended-of (x ∷ xs) summary done before after status (inr (Unwritten four stores rises unsteady said)) = NotStored x four (part-here x xs Failed before after stores) rises unsteady said
+ended-of (x ∷ xs) summary done before after status (inr (Unwritten four stores rises unsteady said)) = NotStored x (Contains-here x xs) four (part-here x xs Failed before after stores) rises unsteady said
 ended-of (x ∷ xs) summary done before after status (inr (NoRoom eight stores said)) = OutOfRoom x eight (part-here x xs NoMemory before after stores) said
 
 -- ---- a delivery in two steps

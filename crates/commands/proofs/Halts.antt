@@ -12,7 +12,7 @@ use Rattle.commands.specs.declared.messages.refusal.Refusal.{Refusal}
 use Rattle.commands.specs.Ends.{AreInputsOf, ExplainsHalt, IsHalted, IsStatusOr}
 use Rattle.commands.specs.Inputs.{Agrees, RisesAt, inputs_of}
 use Rattle.commands.specs.Outside.{Outside, IsLinePrinted}
-use Rattle.commands.specs.Promises.{AreInputsPresent}
+use Rattle.commands.specs.Promises.{AreInputsPresent, ReadsInputs}
 use Rattle.commands.specs.Refusal.{refusal_line}
 use Rattle.command_words.specs.Words.{name_of}
 use Rattle.commands.specs.Messages.{memory_line, unread_line}
@@ -137,3 +137,13 @@ halted-held names before after status n files inputs h modelled is = by h.stop (
 
 pub same-inputs : (a b : Inputs) → held a ≡ held b → a ≡ b
 same-inputs a b e = cc
+
+-- What is promised of the inputs, from their reading.
+pub reads-inputs : (names : InputNames) (before after : Outside) (status : ℕ) → Reading names before after status → ReadsInputs names before after status
+reads-inputs names before after status r = record {
+  refused = λ files modelled five. refused-cause names before after status files r modelled five;
+  refuses = λ files why modelled is. stops-at names before after status files why r modelled is;
+  unread_says = λ three. unread-line names before after status r three;
+  surely_read = λ files modelled steady there. read-there names before after status files r modelled steady there;
+  missing = λ files input modelled steady is. missing-one names before after status files input r modelled steady is;
+}

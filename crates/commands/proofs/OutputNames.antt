@@ -1,4 +1,4 @@
--- If no output name is given twice, the three texts that a command stores have different names.
+-- If no name of a file to store is given again, the texts that a command stores have different names.
 use Rattle.std.proofs.Common.{◌≡◌, ◌≢◌, ◌<◌, ◌∙◌, ℕ, Bool, true, cond, inl, inr, List, [], ◌∷◌, ◌++◌, count_by, refl, sym, arith, None, subst}
 use Rattle.std.specs.Prelude.{Contains, find}
 use Rattle.std.specs.Str.{bytes_eq}
@@ -8,7 +8,8 @@ use Rattle.std.proofs.lemmas.List.Sums.{sum_by-append, sum_by-cons}
 use Rattle.std.proofs.lemmas.Slice.Eq.{bytes_eq-Decides}
 use Rattle.auction_core.proofs.Finds.{find_cases}
 use Rattle.pack_defs.proofs.Members.{Contains-here, Contains-there, list_any-from}
-use Rattle.command_words.specs.Words.{ImportNames, MakeNames, ResumeNames, RunNames, imported_names, is_repeated_among, is_repeated_in, make_output_names, run_names_given, output_names, owners_given, repeated_import, repeated_made, repeated_output, repeated_resume, resumed_names}
+use Rattle.command_words.specs.Words.{ImportNames, MakeNames, ResumeNames, RunNames, ShowNames, first_repeated, import, is_repeated_among, make, names_read, repeated_by, resume, run, show}
+use Rattle.commands.specs.Delivery.{named}
 use Rattle.commands.specs.Ends.{output_texts, pair_of_texts}
 use Rattle.commands.specs.Make.{input_texts_under}
 use Rattle.commands.proofs.DeliveryLemmas.{AreApart}
@@ -33,72 +34,29 @@ two-pass p xs ys zs a b first second =
     let other : f b ≡ 1 = cond-true (p b) 1 0 second in
     omega (arith, sum_by-append f xs (a ∷ (ys ++ b ∷ zs)), sum_by-cons f a (ys ++ b ∷ zs), sum_by-append f ys (b ∷ zs), sum_by-cons f b zs, one, other)
 
--- A name at two places is given twice.
-given-twice : (names : RunNames) (xs ys zs : List (List ℕ)) (a b : List ℕ) → xs ++ a ∷ (ys ++ b ∷ zs) ≡ run_names_given names → a ≡ b → is_repeated_in a names ≡ true
-given-twice names xs ys zs a b whole same =
-    lt-ltb 1 (count_by (bytes_eq a) (run_names_given names))
-    (subst (λ given. 1 < count_by (bytes_eq a) given) whole (two-pass (bytes_eq a) xs ys zs a b (same-bytes a) ((bytes_eq-Decides a b).1 same)))
-
-pub own-names : (names : RunNames) (result channels transcript : List ℕ) → repeated_output names ≡ None → AreApart (output_texts names result channels transcript)
-unfolding repeated_output
-own-names names result channels transcript once =
-    let twice : List ℕ → Bool = λ name. is_repeated_in name names in
-    let inputs = names.inputs in
-    let read = inputs.domains ∷ inputs.rows ∷ inputs.scenario ∷ owners_given inputs.owners in
-    let first : names.result ≢ names.channels = λ same. not-found twice (output_names names) names.result once (Contains-here names.result (names.channels ∷ names.transcript ∷ []))
-    (given-twice names [] [] (names.transcript ∷ read) names.result names.channels refl same) in
-    let last : names.result ≢ names.transcript = λ same. not-found twice (output_names names) names.result once (Contains-here names.result (names.channels ∷ names.transcript ∷ []))
-    (given-twice names [] (names.channels ∷ []) read names.result names.transcript refl same) in
-    let behind : names.channels ≢ names.transcript = λ same. not-found twice (output_names names) names.channels once (Contains-there names.result names.channels (names.channels ∷ names.transcript ∷ []) (Contains-here names.channels (names.transcript ∷ [])))
-    (given-twice names (names.result ∷ []) [] read names.channels names.transcript refl same) in (
-      All-cons (λ name. names.result ≢ name) names.channels (names.transcript ∷ []) first (All-cons (λ name. names.result ≢ name) names.transcript [] last (All-nil (λ name. names.result ≢ name))),
-      (
-        All-cons (λ name. names.channels ≢ name) names.transcript [] behind (All-nil (λ name. names.channels ≢ name)),
-        (All-nil (λ name. names.transcript ≢ name), tt),
-      ),
-    )
-
--- ---- the files of `make`
-
 -- A name at two places of a list is repeated in it.
 pub twice-among : (given xs ys zs : List (List ℕ)) (a b : List ℕ) → xs ++ a ∷ (ys ++ b ∷ zs) ≡ given → a ≡ b → is_repeated_among given a ≡ true
 twice-among given xs ys zs a b whole same =
     lt-ltb 1 (count_by (bytes_eq a) given)
     (subst (λ names. 1 < count_by (bytes_eq a) names) whole (two-pass (bytes_eq a) xs ys zs a b (same-bytes a) ((bytes_eq-Decides a b).1 same)))
 
-pub own-made : (names : MakeNames) (domain_file row_file scenario_file : List ℕ) → repeated_made names ≡ None → AreApart (input_texts_under names.outputs domain_file row_file scenario_file)
-unfolding repeated_made
-own-made names domain_file row_file scenario_file once =
-    let given = make_output_names names in
-    let twice : List ℕ → Bool = is_repeated_among given in
-    let d = names.outputs.domains in
-    let r = names.outputs.rows in
-    let s = names.outputs.scenario in
-    let first : d ≢ r = λ same. not-found twice given d once (Contains-here d (r ∷ s ∷ [])) (twice-among given [] [] (s ∷ []) d r refl same) in
-    let last : d ≢ s = λ same. not-found twice given d once (Contains-here d (r ∷ s ∷ [])) (twice-among given [] (r ∷ []) [] d s refl same) in
-    let behind : r ≢ s = λ same. not-found twice given r once (Contains-there d r (r ∷ s ∷ []) (Contains-here r (s ∷ []))) (twice-among given (d ∷ []) [] [] r s refl same) in (
-      All-cons (λ name. d ≢ name) r (s ∷ []) first (All-cons (λ name. d ≢ name) s [] last (All-nil (λ name. d ≢ name))),
-      (
-        All-cons (λ name. r ≢ name) s [] behind (All-nil (λ name. r ≢ name)),
-        (All-nil (λ name. s ≢ name), tt),
-      ),
-    )
+-- Two names at two places are different.
+two-apart : (stored read xs ys zs : List (List ℕ)) (a b : List ℕ) → first_repeated stored read ≡ None → Contains stored a → xs ++ a ∷ (ys ++ b ∷ zs) ≡ stored ++ read → a ≢ b
+unfolding first_repeated
+two-apart stored read xs ys zs a b once here whole = λ same. not-found (is_repeated_among (stored ++ read)) stored a once here (twice-among (stored ++ read) xs ys zs a b whole same)
 
--- ---- the files of `resume`
+-- Two texts, and three.
+pair-apart : (a b : List ℕ) (read : List (List ℕ)) (t u : List ℕ) → first_repeated (a ∷ b ∷ []) read ≡ None → AreApart (named a t ∷ named b u ∷ [])
+pair-apart a b read t u once =
+    let first : a ≢ b = two-apart (a ∷ b ∷ []) read [] [] read a b once (Contains-here a (b ∷ [])) refl in
+    (All-cons (λ name. a ≢ name) b [] first (All-nil (λ name. a ≢ name)), (All-nil (λ name. b ≢ name), tt))
 
-pub own-resumed : (names : ResumeNames) → repeated_resume names ≡ None → HaveOwnNames names.run_files
-unfolding repeated_resume
-own-resumed names once result channels transcript =
-    let given = resumed_names names in
-    let twice : List ℕ → Bool = is_repeated_among given in
-    let files = names.run_files in
-    let a = files.result in
-    let b = files.channels in
-    let c = files.transcript in
-    let read = files.inputs.domains ∷ files.inputs.rows ∷ files.inputs.scenario ∷ names.prefix ∷ [] in
-    let first : a ≢ b = λ same. not-found twice (output_names files) a once (Contains-here a (b ∷ c ∷ [])) (twice-among given [] [] (c ∷ read) a b refl same) in
-    let last : a ≢ c = λ same. not-found twice (output_names files) a once (Contains-here a (b ∷ c ∷ [])) (twice-among given [] (b ∷ []) read a c refl same) in
-    let behind : b ≢ c = λ same. not-found twice (output_names files) b once (Contains-there a b (b ∷ c ∷ []) (Contains-here b (c ∷ []))) (twice-among given (a ∷ []) [] read b c refl same) in (
+three-apart : (a b c : List ℕ) (read : List (List ℕ)) (t u v : List ℕ) → first_repeated (a ∷ b ∷ c ∷ []) read ≡ None → AreApart (named a t ∷ named b u ∷ named c v ∷ [])
+three-apart a b c read t u v once =
+    let all = a ∷ b ∷ c ∷ [] in
+    let first : a ≢ b = two-apart all read [] [] (c ∷ read) a b once (Contains-here a (b ∷ c ∷ [])) refl in
+    let last : a ≢ c = two-apart all read [] (b ∷ []) read a c once (Contains-here a (b ∷ c ∷ [])) refl in
+    let behind : b ≢ c = two-apart all read (a ∷ []) [] read b c once (Contains-there a b (b ∷ c ∷ []) (Contains-here b (c ∷ []))) refl in (
       All-cons (λ name. a ≢ name) b (c ∷ []) first (All-cons (λ name. a ≢ name) c [] last (All-nil (λ name. a ≢ name))),
       (
         All-cons (λ name. b ≢ name) c [] behind (All-nil (λ name. b ≢ name)),
@@ -106,14 +64,23 @@ own-resumed names once result channels transcript =
       ),
     )
 
--- ---- the files of `import`
+-- ---- the files of each command
 
-pub own-imports : (names : ImportNames) (result transcript : List ℕ) → repeated_import names ≡ None → AreApart (pair_of_texts names result transcript)
-unfolding repeated_import
+pub own-names : (names : RunNames) → repeated_by (run names) ≡ None → HaveOwnNames names
+own-names names once result channels transcript = three-apart names.result names.channels names.transcript (names_read names.inputs) result channels transcript once
+
+pub own-resumed : (names : ResumeNames) → repeated_by (resume names) ≡ None → HaveOwnNames names.run_files
+own-resumed names once result channels transcript =
+    let files = names.run_files in
+    three-apart files.result files.channels files.transcript (names.prefix ∷ names_read files.inputs) result channels transcript once
+
+pub own-made : (names : MakeNames) (domain_file row_file scenario_file : List ℕ) → repeated_by (make names) ≡ None → AreApart (input_texts_under names.outputs domain_file row_file scenario_file)
+own-made names domain_file row_file scenario_file once =
+    three-apart names.outputs.domains names.outputs.rows names.outputs.scenario [] domain_file row_file scenario_file once
+
+pub own-imports : (names : ImportNames) (result transcript : List ℕ) → repeated_by (import names) ≡ None → AreApart (pair_of_texts names result transcript)
 own-imports names result transcript once =
-    let given = imported_names names in
-    let stored = names.result ∷ names.transcript ∷ [] in
-    let inputs = names.shown.inputs in
-    let first : names.result ≢ names.transcript = λ same. not-found (is_repeated_among given) stored names.result once (Contains-here names.result (names.transcript ∷ []))
-    (twice-among given (inputs.domains ∷ inputs.rows ∷ inputs.scenario ∷ names.shown.transcript ∷ names.proof ∷ []) [] [] names.result names.transcript refl same) in
-    (All-cons (λ name. names.result ≢ name) names.transcript [] first (All-nil (λ name. names.result ≢ name)), (All-nil (λ name. names.transcript ≢ name), tt))
+    pair-apart names.result names.transcript (names.proof ∷ names.shown.transcript ∷ names_read names.shown.inputs) result transcript once
+
+pub own-shown : (names : ShowNames) (result channels : List ℕ) → repeated_by (show names) ≡ None → AreApart (named names.result result ∷ named names.channels channels ∷ [])
+own-shown names result channels once = pair-apart names.result names.channels (names.shown.transcript ∷ names_read names.shown.inputs) result channels once

@@ -68,7 +68,7 @@ pub ended-statuses : (xs : List NamedText) (summary : List ℕ) (U : List ClockT
 ended-statuses xs summary U before after status (Both is all writes) =
     subst (λ z. IsTrue (is_in (0 ∷ 1 ∷ 4 ∷ 8 ∷ []) z)) (sym is) (within (0 ∷ 1 ∷ []) (0 ∷ 1 ∷ 4 ∷ 8 ∷ []) (done_status U) refl (done-within U))
 ended-statuses xs summary U before after status (NotSaid is all rises less said) = one-of (0 ∷ 1 ∷ 4 ∷ 8 ∷ []) status 4 is refl
-ended-statuses xs summary U before after status (NotStored x is part rises unsteady said) = one-of (0 ∷ 1 ∷ 4 ∷ 8 ∷ []) status 4 is refl
+ended-statuses xs summary U before after status (NotStored x among is part rises unsteady said) = one-of (0 ∷ 1 ∷ 4 ∷ 8 ∷ []) status 4 is refl
 ended-statuses xs summary U before after status (OutOfRoom x is part said) = one-of (0 ∷ 1 ∷ 4 ∷ 8 ∷ []) status 8 is refl
 
 -- A run whose auction was finished, and the state after its delivery.
@@ -188,7 +188,7 @@ module _ (order : Order) (names : RunNames) (before after : Outside) (status : �
         verifiable = record-verified files names.inputs c.inputs c.rec (c.held files modelled) c.named (in-own-order order c.inputs c.rec c.auction) of.ending c.kept;
       }
       go (NotSaid four all rises less said) = absurd (off (0 ∷ 1 ∷ []) status 4 h four refl)
-      go (NotStored x four part rises unsteady said) = absurd (off (0 ∷ 1 ∷ []) status 4 h four refl)
+      go (NotStored x among four part rises unsteady said) = absurd (off (0 ∷ 1 ∷ []) status 4 h four refl)
       go (OutOfRoom x eight part said) = absurd (off (0 ∷ 1 ∷ []) status 8 h eight refl)
 
   pub run-decided : (files : List StoredFile) → RunEnds order names before after status found → IsOnce names found → before.files ≡ Some files → status ≡ 0 → IsDecided order files names before after
@@ -228,7 +228,7 @@ module _ (order : Order) (names : RunNames) (before after : Outside) (status : �
         summary = said;
         verifiable = record-verified files names.inputs c.inputs c.rec (c.held files modelled) c.named (in-own-order order c.inputs c.rec c.auction) of.ending c.kept;
       })
-      go (NotStored x is part rises unsteady said) = inl (unstored files c modelled x (part files modelled (apart c once)) rises unsteady said)
+      go (NotStored x among is part rises unsteady said) = inl (unstored files c modelled x (part files modelled (apart c once)) rises unsteady said)
       go (OutOfRoom x eight part said) = absurd (omega arith)
 
   pub run-part : (files : List StoredFile) → RunEnds order names before after status found → IsOnce names found → before.files ≡ Some files → status ≡ 8 → IsSome found → IsPartStored order files names after found
@@ -237,7 +237,7 @@ module _ (order : Order) (names : RunNames) (before after : Outside) (status : �
       left : (c : IsCarried order names before after status found) → Ended (auction_texts order names c.inputs c.rec) (summary_in order c.inputs (undecided_of c.rec.steps)) (done_status (undecided_of c.rec.steps)) before after status → IsPartStored order files names after found
       left c (Both is all writes) = absurd (never (undecided_of c.rec.steps) status 8 is eight refl)
       left c (NotSaid four all rises less said) = absurd (omega arith)
-      left c (NotStored x four part rises unsteady said) = absurd (omega arith)
+      left c (NotStored x among four part rises unsteady said) = absurd (omega arith)
       left c (OutOfRoom x is part said) = part-stored files c modelled x (part files modelled (apart c once))
 
       go : Came order names before after status found → IsPartStored order files names after found
@@ -260,7 +260,7 @@ module _ (order : Order) (names : RunNames) (before after : Outside) (status : �
           × Writes before.held after.held (summary_in order inputs (undecided_of rec.steps)) (Ok tt)
       go (Both is all writes) = (c.inputs, c.rec, c.recorded, c.auction, is, writes)
       go (NotSaid four all rises less said) = absurd (off (0 ∷ 1 ∷ []) status 4 h four refl)
-      go (NotStored x four part rises unsteady said) = absurd (off (0 ∷ 1 ∷ []) status 4 h four refl)
+      go (NotStored x among four part rises unsteady said) = absurd (off (0 ∷ 1 ∷ []) status 4 h four refl)
       go (OutOfRoom x eight part said) = absurd (off (0 ∷ 1 ∷ []) status 8 h eight refl)
 
   pub run-surely : (files : List StoredFile) → RunEnds order names before after status found → before.files ≡ Some files → before.steady ≡ true →
@@ -272,7 +272,7 @@ module _ (order : Order) (names : RunNames) (before after : Outside) (status : �
       go : (c : IsCarried order names before after status found) → status ≡ 4 → Ended (auction_texts order names c.inputs c.rec) (summary_in order c.inputs (undecided_of c.rec.steps)) (done_status (undecided_of c.rec.steps)) before after status → ⊥
       go c four (Both is all writes) = never (undecided_of c.rec.steps) status 4 is four refl
       go c four (NotSaid is all rises less said) = let enough = room c.inputs (undecided_of c.rec.steps) (c.held files modelled) in omega arith
-      go c four (NotStored x is part rises unsteady said) = unsteady steady
+      go c four (NotStored x among is part rises unsteady said) = unsteady steady
       go c four (OutOfRoom x eight part said) = omega arith
 
   pub run-unwritten : RunEnds order names before after status found → status ≡ 4 → HasRisen before.faults after.faults ⊎ HasRisen before.sink_faults after.sink_faults
@@ -287,7 +287,7 @@ module _ (order : Order) (names : RunNames) (before after : Outside) (status : �
       go : Ended (auction_texts order names c.inputs c.rec) (summary_in order c.inputs (undecided_of c.rec.steps)) (done_status (undecided_of c.rec.steps)) before after status → HasRisen before.faults after.faults ⊎ HasRisen before.sink_faults after.sink_faults
       go (Both is all writes) = absurd (never (undecided_of c.rec.steps) status 4 is four refl)
       go (NotSaid is all rises less said) = inr rises
-      go (NotStored x is part rises unsteady said) = inl rises
+      go (NotStored x among is part rises unsteady said) = inl rises
       go (OutOfRoom x eight part said) = absurd (omega arith)
 
   -- Files that are unchanged.
@@ -308,7 +308,7 @@ module _ (order : Order) (names : RunNames) (before after : Outside) (status : �
       left : (c : IsCarried order names before after status found) → Ended (auction_texts order names c.inputs c.rec) (summary_in order c.inputs (undecided_of c.rec.steps)) (done_status (undecided_of c.rec.steps)) before after status → MatchOption after.files ⊥ (λ new. AllOthersUnchanged files new (output_names names))
       left c (Both is all writes) = all-stand c (all files modelled (apart c once))
       left c (NotSaid is all rises less said) = all-stand c (all files modelled (apart c once))
-      left c (NotStored x is part rises unsteady said) = part-stands c x (part files modelled (apart c once))
+      left c (NotStored x among is part rises unsteady said) = part-stands c x (part files modelled (apart c once))
       left c (OutOfRoom x is part said) = part-stands c x (part files modelled (apart c once))
 
       go : Came order names before after status found → MatchOption after.files ⊥ (λ new. AllOthersUnchanged files new (output_names names))

@@ -45,7 +45,7 @@ use Rattle.commands.specs.SeekPromises.{IsNoTop, IsTopOf, IsTopOpen, SeekPromise
 use Rattle.command_words.specs.Words.{InputNames, SeekNames, seek_inputs}
 use Rattle.commands.proofs.DeliveryLemmas.{AreApart, Ended, IsPart, all-more, all-none, ended-of, for-told, others-up-to}
 use Rattle.commands.proofs.DeliveryLemmas.Ended.{Both, NotSaid, NotStored, OutOfRoom}
-use Rattle.commands.proofs.Halts.{Reading, halted-held, stopped-memory, stopped-statuses, stopped-unread}
+use Rattle.commands.proofs.Halts.{Reading, halted-held, stopped-memory, stopped-statuses, stopped-unread, reads-inputs}
 use Rattle.commands.proofs.Halts.Reading.{Halted, Short, Went}
 use Rattle.commands.proofs.ReadingLemmas.{then-ok}
 use Rattle.commands.proofs.RunLemmas.{absent, some-record}
@@ -259,7 +259,7 @@ module _ (names : SeekNames) (before after : Outside) (status : ℕ) (found belo
       go : (b : Bool) → Ended (seek_texts names r.of.x.rec) (top_text r.of.x.top r.of.x.is_open) (top_status b) before after status → IsTrue (is_in (0 ∷ 1 ∷ 4 ∷ 8 ∷ []) status)
       go b (Both is all writes) = subst (λ z. IsTrue (is_in (0 ∷ 1 ∷ 4 ∷ 8 ∷ []) z)) (sym is) (within (0 ∷ 1 ∷ []) (0 ∷ 1 ∷ 4 ∷ 8 ∷ []) (top_status b) refl (top-within b))
       go b (NotSaid is all rises less said) = one-of (0 ∷ 1 ∷ 4 ∷ 8 ∷ []) status 4 is refl
-      go b (NotStored x is part rises unsteady said) = one-of (0 ∷ 1 ∷ 4 ∷ 8 ∷ []) status 4 is refl
+      go b (NotStored x among is part rises unsteady said) = one-of (0 ∷ 1 ∷ 4 ∷ 8 ∷ []) status 4 is refl
       go b (OutOfRoom x is part said) = one-of (0 ∷ 1 ∷ 4 ∷ 8 ∷ []) status 8 is refl
 
   -- At these statuses a top was found.
@@ -271,7 +271,7 @@ module _ (names : SeekNames) (before after : Outside) (status : ℕ) (found belo
       go (ToTop s some alone same) = absurd (apart-lists (0 ∷ 1 ∷ 4 ∷ []) (6 ∷ 7 ∷ []) status refl h s)
       go (Reached r) = r
 
-  pub seek-statuses : SeekEnds names before after status found below → IsTrue (is_in (0 ∷ 1 ∷ 3 ∷ 4 ∷ 5 ∷ 6 ∷ 7 ∷ 8 ∷ []) status)
+  seek-statuses : SeekEnds names before after status found below → IsTrue (is_in (0 ∷ 1 ∷ 3 ∷ 4 ∷ 5 ∷ 6 ∷ 7 ∷ 8 ∷ []) status)
   seek-statuses end = go (came end)
     where
       go : Came names before after status found below → IsTrue (is_in (0 ∷ 1 ∷ 3 ∷ 4 ∷ 5 ∷ 6 ∷ 7 ∷ 8 ∷ []) status)
@@ -279,7 +279,7 @@ module _ (names : SeekNames) (before after : Outside) (status : ℕ) (found belo
       go (ToTop s some alone same) = within (6 ∷ 7 ∷ []) (0 ∷ 1 ∷ 3 ∷ 4 ∷ 5 ∷ 6 ∷ 7 ∷ 8 ∷ []) status refl s
       go (Reached r) = within (0 ∷ 1 ∷ 4 ∷ 8 ∷ []) (0 ∷ 1 ∷ 3 ∷ 4 ∷ 5 ∷ 6 ∷ 7 ∷ 8 ∷ []) status refl (reached-statuses r)
 
-  pub seek-unrecorded : SeekEnds names before after status found below → IsTrue (is_in (2 ∷ 3 ∷ 5 ∷ 9 ∷ 10 ∷ []) status) → found ≡ None
+  seek-unrecorded : SeekEnds names before after status found below → IsTrue (is_in (2 ∷ 3 ∷ 5 ∷ 9 ∷ 10 ∷ []) status) → found ≡ None
   seek-unrecorded end h = go (came end)
     where
       go : Came names before after status found below → found ≡ None
@@ -287,7 +287,7 @@ module _ (names : SeekNames) (before after : Outside) (status : ℕ) (found belo
       go (ToTop s some alone same) = absurd (apart-lists (2 ∷ 3 ∷ 5 ∷ 9 ∷ 10 ∷ []) (6 ∷ 7 ∷ []) status refl h s)
       go (Reached r) = absurd (apart-lists (2 ∷ 3 ∷ 5 ∷ 9 ∷ 10 ∷ []) (0 ∷ 1 ∷ 4 ∷ 8 ∷ []) status refl h (reached-statuses r))
 
-  pub seek-backed : SeekEnds names before after status found below → MatchOption found ⊤ IsSomeRecord
+  seek-backed : SeekEnds names before after status found below → MatchOption found ⊤ IsSomeRecord
   seek-backed end = go (came end)
     where
       go : Came names before after status found below → MatchOption found ⊤ IsSomeRecord
@@ -299,7 +299,7 @@ module _ (names : SeekNames) (before after : Outside) (status : ℕ) (found belo
           let of = least.auction in
           rw top.recorded (some-record run_order (inputs_at (base_of top.sources) top.x.top) top.x.rec of.backed (λ done. of.packing))
 
-  pub seek-untouched : SeekEnds names before after status found below → found ≡ None → after.files ≡ before.files
+  seek-untouched : SeekEnds names before after status found below → found ≡ None → after.files ≡ before.files
   seek-untouched end absent = go (came end)
     where
       go : Came names before after status found below → after.files ≡ before.files
@@ -307,7 +307,7 @@ module _ (names : SeekNames) (before after : Outside) (status : ℕ) (found belo
       go (ToTop s some alone same) = same
       go (Reached r) = let top = r.of in cc (sym top.recorded ∙ absent)
 
-  pub seek-ended : SeekEnds names before after status found below → IsTrue (is_in (6 ∷ 7 ∷ []) status) → after.files ≡ before.files
+  seek-ended : SeekEnds names before after status found below → IsTrue (is_in (6 ∷ 7 ∷ []) status) → after.files ≡ before.files
   seek-ended end h = go (came end)
     where
       go : Came names before after status found below → after.files ≡ before.files
@@ -331,7 +331,7 @@ module _ (names : SeekNames) (before after : Outside) (status : ℕ) (found belo
   held : (sources : Sources) → AreSought names before sources → AreInputsOf (seek_inputs names) before (whole_of sources)
   held sources are files modelled = sought-inputs files names sources (are files modelled)
 
-  pub seek-reading : SeekEnds names before after status found below → Reading (seek_inputs names) before after status
+  seek-reading : SeekEnds names before after status found below → Reading (seek_inputs names) before after status
   seek-reading (SeekStopped s none alone) = Halted s
   seek-reading (SeekOutOfMemory s alone) = Short s.status_is
   seek-reading (NoTop sources rec are can of six kept alone said same) = Went (whole_of sources) (held sources are) (one-of (0 ∷ 1 ∷ 4 ∷ 6 ∷ 7 ∷ 8 ∷ []) status 6 six refl)
@@ -342,7 +342,7 @@ module _ (names : SeekNames) (before after : Outside) (status : ℕ) (found belo
         delivered = d;
       }))
 
-  pub seek-unread : SeekEnds names before after status found below → status ≡ 3 → HasRisen before.faults after.faults
+  seek-unread : SeekEnds names before after status found below → status ≡ 3 → HasRisen before.faults after.faults
   seek-unread (SeekStopped s none alone) three = stopped-unread (seek_inputs names) before after status s three
   seek-unread (SeekOutOfMemory s alone) three = let eight = s.status_is in absurd (omega arith)
   seek-unread (NoTop sources rec are can of six kept alone said same) three = absurd (omega arith)
@@ -352,7 +352,7 @@ module _ (names : SeekNames) (before after : Outside) (status : ℕ) (found belo
     delivered = d;
   })) three refl)
 
-  pub seek-memory : SeekEnds names before after status found below → status ≡ 8 → IsLinePrinted before after memory_line
+  seek-memory : SeekEnds names before after status found below → status ≡ 8 → IsLinePrinted before after memory_line
   seek-memory (SeekStopped s none alone) eight = stopped-memory (seek_inputs names) before after status s eight
   seek-memory (SeekOutOfMemory s alone) eight = s.line
   seek-memory (NoTop sources rec are can of six kept alone said same) eight = absurd (omega arith)
@@ -362,7 +362,7 @@ module _ (names : SeekNames) (before after : Outside) (status : ℕ) (found belo
       by : Ended (seek_texts names x.rec) (top_text x.top x.is_open) (top_status x.is_open) before after status → IsLinePrinted before after memory_line
       by (Both is all writes) = absurd (never x.is_open status 8 is eight refl)
       by (NotSaid four all rises less said) = absurd (omega arith)
-      by (NotStored y four part rises unsteady said) = absurd (omega arith)
+      by (NotStored y among four part rises unsteady said) = absurd (omega arith)
       by (OutOfRoom y is part said) = said
 
   abbrev IsUnwritten : Type 0
@@ -390,7 +390,7 @@ module _ (names : SeekNames) (before after : Outside) (status : ℕ) (found belo
   seek-wrote : SeekEnds names before after status found below → status ≡ 4 → IsUnwritten
   seek-wrote end four = wrote (reached end (one-of (0 ∷ 1 ∷ 4 ∷ []) status 4 four refl)) four
 
-  pub seek-unwritten : SeekEnds names before after status found below → status ≡ 4 → HasRisen before.faults after.faults ⊎ HasRisen before.sink_faults after.sink_faults
+  seek-unwritten : SeekEnds names before after status found below → status ≡ 4 → HasRisen before.faults after.faults ⊎ HasRisen before.sink_faults after.sink_faults
   seek-unwritten end four = elim (seek-wrote end four) [
     | inl unstored ↦ inl unstored.0
     | inr without_owners ↦ inr without_owners.1
@@ -412,7 +412,7 @@ module _ (names : SeekNames) (before after : Outside) (status : ℕ) (found belo
           (of : IsTopOf names before found below) × (status ≡ top_status of.x.is_open) × Writes before.held after.held (top_text of.x.top of.x.is_open) (Ok tt)
       go (Both is all writes) = (top, is, writes)
       go (NotSaid four all rises less said) = absurd (off (0 ∷ 1 ∷ []) status 4 h four refl)
-      go (NotStored x four part rises unsteady said) = absurd (off (0 ∷ 1 ∷ []) status 4 h four refl)
+      go (NotStored x among four part rises unsteady said) = absurd (off (0 ∷ 1 ∷ []) status 4 h four refl)
       go (OutOfRoom x eight part said) = absurd (off (0 ∷ 1 ∷ []) status 8 h eight refl)
 
   abbrev IsLeast : Type 0
@@ -443,7 +443,7 @@ module _ (names : SeekNames) (before after : Outside) (status : ℕ) (found belo
           (of : IsTopOf names before found below) × MatchOption after.files ⊥ (λ new. AreStored files new (seek_texts names of.x.rec))
       go (Both is all writes) = (top, all files modelled (single (named names.channels (channels_text top.x.rec.map))))
       go (NotSaid four all rises less said) = absurd (off (0 ∷ 1 ∷ []) status 4 h four refl)
-      go (NotStored x four part rises unsteady said) = absurd (off (0 ∷ 1 ∷ []) status 4 h four refl)
+      go (NotStored x among four part rises unsteady said) = absurd (off (0 ∷ 1 ∷ []) status 4 h four refl)
       go (OutOfRoom x eight part said) = absurd (off (0 ∷ 1 ∷ []) status 8 h eight refl)
 
   -- Files that are unchanged.
@@ -464,7 +464,7 @@ module _ (names : SeekNames) (before after : Outside) (status : ℕ) (found belo
       left : (r : IsReached names before after status found below) → Ended (seek_texts names r.of.x.rec) (top_text r.of.x.top r.of.x.is_open) (top_status r.of.x.is_open) before after status → MatchOption after.files ⊥ (λ new. AllOthersUnchanged files new (names.channels ∷ []))
       left r (Both is all writes) = all-stand r (all files modelled (single (named names.channels (channels_text r.of.x.rec.map))))
       left r (NotSaid is all rises less said) = all-stand r (all files modelled (single (named names.channels (channels_text r.of.x.rec.map))))
-      left r (NotStored x is part rises unsteady said) = part-stands r x (part files modelled (single (named names.channels (channels_text r.of.x.rec.map))))
+      left r (NotStored x among is part rises unsteady said) = part-stands r x (part files modelled (single (named names.channels (channels_text r.of.x.rec.map))))
       left r (OutOfRoom x is part said) = part-stands r x (part files modelled (single (named names.channels (channels_text r.of.x.rec.map))))
 
       go : Came names before after status found below → MatchOption after.files ⊥ (λ new. AllOthersUnchanged files new (names.channels ∷ []))
@@ -542,7 +542,7 @@ module _ (names : SeekNames) (before after : Outside) (status : ℕ) (found belo
         | inr one ↦ inr (one-of (1 ∷ 4 ∷ 7 ∷ []) status 1 one refl)
       ]
       by (NotSaid four all rises less said) = inr (one-of (1 ∷ 4 ∷ 7 ∷ []) status 4 four refl)
-      by (NotStored y four part rises unsteady said) = inr (one-of (1 ∷ 4 ∷ 7 ∷ []) status 4 four refl)
+      by (NotStored y among four part rises unsteady said) = inr (one-of (1 ∷ 4 ∷ 7 ∷ []) status 4 four refl)
       by (OutOfRoom y eight part said) = inl (inr (inl eight))
 
   -- No station starts on air.
@@ -562,7 +562,7 @@ module _ (names : SeekNames) (before after : Outside) (status : ℕ) (found belo
       by : Ended (seek_texts names x.rec) (top_text x.top x.is_open) (top_status x.is_open) before after status → IsStatusOr 0 before status ⊎ (status ≡ 4)
       by (Both done all writes) = inl (inl (done ∙ ap top_status shut))
       by (NotSaid four all rises less said) = inr four
-      by (NotStored y four part rises unsteady said) = inr four
+      by (NotStored y among four part rises unsteady said) = inr four
       by (OutOfRoom y eight part said) = inl (inr (inl eight))
 
   seek-fourteen : (files : List StoredFile) (sources : Sources) → SeekEnds names before after status found below → before.files ≡ Some files → seekable_of files (seek_inputs names) ≡ Ok sources →
@@ -585,6 +585,14 @@ module _ (names : SeekNames) (before after : Outside) (status : ℕ) (found belo
   pub seek-promises : SeekEnds names before after status found below → SeekPromises names before after status found below
   seek-promises end = record {
     statuses = seek-statuses end;
+    inputs = reads-inputs (seek_inputs names) before after status (seek-reading end);
+    failures = record { unread = seek-unread end; unwritten = seek-unwritten end; memory = seek-memory end };
+    keeps = record {
+      backed = seek-backed end;
+      unrecorded = λ h. seek-unrecorded end (within (3 ∷ 5 ∷ 9 ∷ 10 ∷ []) (2 ∷ 3 ∷ 5 ∷ 9 ∷ 10 ∷ []) status refl h);
+      untouched = seek-untouched end;
+    };
+    unfit_untouched = seek-ended end;
     of = λ h. let r = reached end h in r.of;
     done = seek-done end;
     least = seek-least end;

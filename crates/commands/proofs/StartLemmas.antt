@@ -102,7 +102,7 @@ module _ (order : Order) (names : RunNames) (before after : Outside) (status : �
         | inr one ↦ inr (one-of (1 ∷ 4 ∷ 7 ∷ []) status 1 one refl)
       ]
       by (NotSaid four all rises less said) = inr (one-of (1 ∷ 4 ∷ 7 ∷ []) status 4 four refl)
-      by (NotStored x four part rises unsteady said) = inr (one-of (1 ∷ 4 ∷ 7 ∷ []) status 4 four refl)
+      by (NotStored x among four part rises unsteady said) = inr (one-of (1 ∷ 4 ∷ 7 ∷ []) status 4 four refl)
       by (OutOfRoom x eight part said) = inl (inr (inl eight))
 
   pub run-refuted : RunEnds order names before after status found → status ≡ 6 → IsRecordAt order names before StartRefuted found
@@ -136,5 +136,5 @@ module _ (order : Order) (names : RunNames) (before after : Outside) (status : �
       by : Ended (auction_texts order names inputs rec) (summary_in order inputs (undecided_of rec.steps)) (done_status (undecided_of rec.steps)) before after status → IsLinePrinted before after memory_line
       by (Both is all writes) = absurd (never (undecided_of rec.steps) status 8 is eight refl)
       by (NotSaid four all rises less said) = absurd (omega arith)
-      by (NotStored x four part rises unsteady said) = absurd (omega arith)
+      by (NotStored x among four part rises unsteady said) = absurd (omega arith)
       by (OutOfRoom x is part said) = said

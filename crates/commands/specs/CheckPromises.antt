@@ -1,5 +1,5 @@
 -- What `check` promises, clause by clause.
-use Rattle.std.specs.Prelude.{◌≡◌, ◌≢◌, ◌⊎◌, ◌≤◌, ℕ, List, [], ◌∷◌, length, Option, Some, Ok, None, IsFalse}
+use Rattle.std.specs.Prelude.{◌≡◌, ◌≢◌, ◌⊎◌, ◌≤◌, ℕ, List, [], ◌∷◌, length, Option, Some, Ok, None, IsTrue}
 use Rattle.pack_defs.specs.Lists.{is_in}
 use Rattle.outside_io.specs.Faults.{HasRisen}
 use Rattle.outside_io.specs.Files.{StoredFile}
@@ -7,10 +7,11 @@ use Rattle.outside_io.specs.Loads.{Writes}
 use Rattle.auction_core.specs.declared.record.Record.{Record}
 use Rattle.commands.specs.declared.inputs.Inputs.{Inputs}
 use Rattle.commands.specs.Check.{counts_text}
+use Rattle.commands.specs.Ends.{IsStatusOr}
 use Rattle.commands.specs.Inputs.{inputs_of}
 use Rattle.commands.specs.Outside.{Outside, IsLinePrinted}
-use Rattle.commands.specs.Statuses.{DONE, LEFT_OPEN, UNWRITTEN, START_UNFIT, START_OPEN, NOT_SHOWN, NOT_SETTLED}
-use Rattle.commands.specs.Ends.{IsStatusOr}
+use Rattle.commands.specs.Promises.{ReadsInputs, TellsFailures}
+use Rattle.commands.specs.Statuses.{DONE, UNREAD, UNWRITTEN, REFUSED, NO_MEMORY}
 use Rattle.command_words.specs.Words.{InputNames}
 
 -- What `check` promises where the folder's files are modelled.
@@ -27,8 +28,12 @@ pub record ModelledCheck (files : List StoredFile) (names : InputNames) (before 
 
 -- What `check` promises, by its status and its record.
 pub record CheckPromises (names : InputNames) (before after : Outside) (status : ℕ) (found : Option Record) : Type 0 where
-  -- Where the folder's files are modelled, `check` keeps the promises of `ModelledCheck`.
-  pub modelled : (files : List StoredFile) → before.files ≡ Some files → ModelledCheck files names before after status
-  -- It has no record, and its status is not 1, 6, 7, 9 or 10.
+  -- The status is 0, 3, 4, 5 or 8. There is no record, and no file changes.
+  pub statuses : IsTrue (is_in (DONE ∷ UNREAD ∷ UNWRITTEN ∷ REFUSED ∷ NO_MEMORY ∷ []) status)
   pub no_record : found ≡ None
-  pub never : IsFalse (is_in (LEFT_OPEN ∷ START_UNFIT ∷ START_OPEN ∷ NOT_SHOWN ∷ NOT_SETTLED ∷ []) status)
+  pub untouched : after.files ≡ before.files
+  -- Of the inputs and of failures it promises what others do. Where the folder's files are modelled, it keeps the promises of
+  -- `ModelledCheck`.
+  pub inputs : ReadsInputs names before after status
+  pub failures : TellsFailures before after status
+  pub modelled : (files : List StoredFile) → before.files ≡ Some files → ModelledCheck files names before after status

@@ -103,3 +103,10 @@ pub record AreStoredUpTo (old new : List StoredFile) (xs : List NamedText) : Typ
   pub parts : stored ++ failed ∷ left ≡ xs
   pub hold : AreHeldUnder new stored
   pub others : AllOthersUnchanged old new (names_of stored ++ failed.name ∷ [])
+
+-- The texts are stored only up to one name. The texts before it are stored, that name may hold anything or be gone, and all other
+-- files are unchanged.
+pub record AreTextsStoredUpTo (files : List StoredFile) (texts : List NamedText) (after : Outside) : Type 0 where
+  pub new : List StoredFile
+  pub now_modelled : after.files ≡ Some new
+  pub part : AreStoredUpTo files new texts

@@ -1,5 +1,5 @@
--- How the program ends: its status, its records, and what it leaves outside. `BatchEnds` says how a batch ends, and `ResumeEnds`
--- how `resume` does.
+-- How commands end: their status, their records, and what they leave outside. `BatchEnds` says how a batch ends, `ResumeEnds` how
+-- `resume` does, and `Views` how a view does.
 use Rattle.std.specs.Prelude.{◌≡◌, ◌≢◌, ◌<◌, ◌≤◌, ◌⊎◌, ℕ, true, List, [], ◌∷◌, length, Option, Some, None, Ok, Err}
 use Rattle.outside_io.specs.Faults.{HasRisen}
 use Rattle.outside_io.specs.Files.{StoredFile, bytes_of}
@@ -15,25 +15,24 @@ use Rattle.pack_defs.specs.declared.order.Order.{Order}
 use Rattle.auction_core.specs.declared.record.Record.{Record}
 use Rattle.auction_core.specs.Backed.{undecided_of}
 use Rattle.commands.specs.Check.{counts_text}
-use Rattle.commands.specs.Delivery.{AreAllStored, Delivers, IsNotStored, IsPrinted, IsStored, NamedText, StopsAtOne, named}
+use Rattle.commands.specs.Delivery.{AreAllStored, Delivers, IsPrinted, NamedText, StopsAtOne, named}
 use Rattle.commands.specs.Inputs.{Agrees, CountsFault, file_limit, inputs_of, transcript_limit}
 use Rattle.commands.specs.Make.{HasRun, make_inputs, make_texts}
 use Rattle.commands.specs.Outside.{Outside, IsLinePrinted}
-use Rattle.commands.specs.Plan.{Plan, no_command, repeats, runs, checks, verifies, seeks, makes, exports, imports}
-use Rattle.commands.specs.Records.{IsOpenRecordIn, IsOpenRecordOf, IsRecordIn, IsRefutedRecordIn, IsRefutedRecordOf, done_status, result_of, run_order, summary_in}
+use Rattle.commands.specs.Records.{IsOpenRecordIn, IsOpenRecordOf, IsRecordIn, IsRefutedRecordIn, IsRefutedRecordOf, done_status, result_of, summary_in}
 use Rattle.commands.specs.Refusal.{refusal_line}
 use Rattle.command_words.specs.Words.{name_of}
-use Rattle.commands.specs.Messages.{PrintsText, long_line, memory_line, open_line, twice_line, unfit_line, unread_line}
+use Rattle.commands.specs.Messages.{PrintsText, long_line, memory_line, open_line, unfit_line, unread_line}
 use Rattle.commands.specs.Seek.{IsLeastTop, IsSeekable, base_of, inputs_at, seekable_of, top_status, top_text}
-use Rattle.commands.specs.Settling.{unsettled_line, missing_fault, open_fault, step_line}
-use Rattle.commands.specs.Statuses.{DONE, NO_COMMAND, UNREAD, UNWRITTEN, REFUSED, START_UNFIT, START_OPEN, NO_MEMORY, NOT_SHOWN, NOT_SETTLED}
+use Rattle.commands.specs.Settling.{unsettled_line, open_fault, step_line}
+use Rattle.commands.specs.Statuses.{DONE, UNREAD, UNWRITTEN, REFUSED, START_UNFIT, START_OPEN, NO_MEMORY, NOT_SHOWN, NOT_SETTLED}
 use Rattle.commands.specs.Verified.{CanBeNamed, fault_line, verified}
-use Rattle.command_words.specs.Words.{ExportNames, ImportNames, InputNames, MakeNames, RunNames, SeekNames, VerifyNames, repeated_export, repeated_import, repeated_made, repeated_output, repeated_seek, seek_inputs}
+use Rattle.command_words.specs.Words.{ImportNames, InputNames, MakeNames, RunNames, SeekNames, VerifyNames, seek_inputs}
 use Rattle.result_text.specs.ChannelsText.{channels_text}
 use Rattle.transcript_text.specs.RoundTrip.{IsHeld}
 use Rattle.transcript_text.specs.Spelling.{transcript_text}
 use Rattle.undecided_tests.specs.Queries.{step_numbered}
-use Rattle.undecided_tests.specs.Settling.{formula_text, settled_text}
+use Rattle.undecided_tests.specs.Settling.{settled_text}
 use Rattle.undecided_tests.specs.declared.settle.SettleErr.{SettleErr}
 
 -- ---- Reading the inputs
@@ -199,23 +198,6 @@ pub record IsShown (names : VerifyNames) (before : Outside) (inputs : Inputs) (r
   pub sound : verified inputs text ≡ Ok rec
   pub own : IsRecordIn rec.order inputs rec
 
--- How `export` ends: as `verify` without a record, out of memory, without a step of this number, or with the formula stored or
--- not. It has no record, and prints nothing where the formula was stored.
-pub data ExportEnds (names : ExportNames) (before after : Outside) (status : ℕ) (found : Option Record) : Type 0 where
-  Unshown : VerifyEnds names.shown before after status found → found ≡ None → ExportEnds names before after status found
-  ExportOutOfMemory : EndsOutOfMemory before after status found → ExportEnds names before after status found
-  NoStep : (inputs : Inputs) (rec : Record) (fault : StepFault) → IsShown names.shown before inputs rec →
-      missing_fault (step_numbered rec.steps names.step) ≡ Some fault → status ≡ NOT_SETTLED → found ≡ None →
-      IsLinePrinted before after (step_line names.step fault) → after.files ≡ before.files → ExportEnds names before after status found
-  FormulaStored : (inputs : Inputs) (rec : Record) → IsShown names.shown before inputs rec →
-      missing_fault (step_numbered rec.steps names.step) ≡ None → status ≡ DONE → found ≡ None →
-      IsStored (named names.formula (formula_text inputs.book rec names.step)) before after →
-      ExportEnds names before after status found
-  FormulaNotStored : (inputs : Inputs) (rec : Record) → IsShown names.shown before inputs rec →
-      missing_fault (step_numbered rec.steps names.step) ≡ None → found ≡ None →
-      IsNotStored (named names.formula (formula_text inputs.book rec names.step)) before after status →
-      ExportEnds names before after status found
-
 -- The texts of an import with their names, in the order in which they are stored: result, transcript.
 abbrev pub pair_of_texts : ImportNames → List ℕ → List ℕ → List NamedText
 pair_of_texts names result transcript = named names.result result ∷ named names.transcript transcript ∷ []
@@ -262,32 +244,3 @@ pub data MakeEnds (names : MakeNames) (before after : Outside) (status : ℕ) (f
       HasRun (make_inputs names.seed names.size) rec summary → found ≡ Some rec →
       IsPrinted summary (done_status (undecided_of rec.steps)) between after status →
       MakeEnds names before after status found
-
--- How the program ends for every plan except `batch` and `resume`: memory ran out, no command was carried out, or the command
--- ended.
-pub data Ends (plan : Plan) (before after : Outside) (status : ℕ) (found below : Option Record) : Type 0 where
-  -- Memory may run out before the plan is known.
-  EndedOutOfMemory : EndsOutOfMemory before after status found → after.faults ≡ before.faults → below ≡ None → Ends plan before after status found below
-  -- Where no command is carried out, no file changes, and neither does the folder's fault count.
-  Usage : (text : List ℕ) → plan ≡ no_command → status ≡ NO_COMMAND → found ≡ None → IsLinePrinted before after text →
-      after.files ≡ before.files → after.faults ≡ before.faults → below ≡ None → Ends plan before after status found below
-  Repeated : (name : List ℕ) → plan ≡ repeats name → status ≡ REFUSED → found ≡ None →
-      IsLinePrinted before after (twice_line name) → after.files ≡ before.files → after.faults ≡ before.faults → below ≡ None →
-      Ends plan before after status found below
-  -- A run is carried out only if no output name is repeated; the same holds for each command that stores files.
-  Ran : (names : RunNames) → plan ≡ runs names → repeated_output names ≡ None → RunEnds run_order names before after status found → below ≡ None →
-      Ends plan before after status found below
-  Checked : (names : InputNames) → plan ≡ checks names → CheckEnds names before after status found → below ≡ None →
-      Ends plan before after status found below
-  Verified : (names : VerifyNames) → plan ≡ verifies names → VerifyEnds names before after status found → below ≡ None →
-      Ends plan before after status found below
-  -- Only `seek` has a second record.
-  Sought : (names : SeekNames) → plan ≡ seeks names → repeated_seek names ≡ None → SeekEnds names before after status found below →
-      Ends plan before after status found below
-  Made : (names : MakeNames) → plan ≡ makes names → repeated_made names ≡ None → MakeEnds names before after status found → below ≡ None →
-      Ends plan before after status found below
-  Exported : (names : ExportNames) → plan ≡ exports names → repeated_export names ≡ None → ExportEnds names before after status found → below ≡ None →
-      Ends plan before after status found below
-  -- No step of a live auction is settled.
-  Imported : (names : ImportNames) → plan ≡ imports names → names.shown.inputs.owners ≡ None → repeated_import names ≡ None → ImportEnds names before after status found → below ≡ None →
-      Ends plan before after status found below

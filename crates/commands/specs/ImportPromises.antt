@@ -26,21 +26,14 @@ use Rattle.commands.specs.Delivery.{AllOthersUnchanged, AreStored, AreStoredUpTo
 use Rattle.commands.specs.Ends.{AreInputsOf, IsNotLoaded, IsShown, import_texts, IsStatusOr}
 use Rattle.commands.specs.Inputs.{file_limit, inputs_of, transcript_limit}
 use Rattle.commands.specs.Outside.{Outside, IsLinePrinted}
+use Rattle.commands.specs.Promises.{KeepsRecord, TellsFailures}
 use Rattle.commands.specs.Records.{IsRecordIn, done_status, outcome, summary_in}
 use Rattle.commands.specs.Messages.{unread_line, unwritten_line}
 use Rattle.commands.specs.Settling.{unsettled_line, open_fault, step_line}
 use Rattle.commands.specs.Statuses.{DONE, LEFT_OPEN, UNREAD, UNWRITTEN, REFUSED, NO_MEMORY, NOT_SHOWN, NOT_SETTLED}
 use Rattle.commands.specs.Verified.{verified}
-use Rattle.commands.specs.VerifyPromises.{AreAllFilesPresent, IsGiven, VerifyPromises}
-use Rattle.command_words.specs.Words.{ImportNames, VerifyNames}
-
--- The transcript that the files hold is sound.
-pub record IsSoundIn (files : List StoredFile) (names : VerifyNames) : Type 0 where
-  pub inputs : Inputs
-  pub text : List ℕ
-  pub given : IsGiven files names inputs text
-  pub rec : Record
-  pub shown : verified inputs text ≡ Ok rec
+use Rattle.commands.specs.VerifyPromises.{AreAllFilesPresent, IsGiven, IsSoundTranscript, VerifyPromises}
+use Rattle.command_words.specs.Words.{ImportNames}
 
 -- The file of this name holds these bytes of a log, no more than an input file may have.
 pub record IsLogIn (files : List StoredFile) (name log : List ℕ) : Type 0 where
@@ -50,7 +43,7 @@ pub record IsLogIn (files : List StoredFile) (name log : List ℕ) : Type 0 wher
 -- A step that a sound transcript's record shows undecided is settled by the log that a file holds. The new record is of the
 -- auction of the inputs, and shows the step by that proof.
 pub record IsSettledStep (files : List StoredFile) (names : ImportNames) (found : Option Record) : Type 0 where
-  pub sound : IsSoundIn files names.shown
+  pub sound : IsSoundTranscript files names.shown
   pub step : Step
   pub there : step_numbered sound.rec.steps names.step ≡ Some step
   pub open_before : is_undecided step.shown ≡ true
@@ -124,14 +117,15 @@ pub record IsUnlogged (names : ImportNames) (before after : Outside) (status : �
 pub record ImportPromises (names : ImportNames) (before after : Outside) (status : ℕ) (found : Option Record) : Type 0 where
   -- The status is 0, 1, 3, 4, 5, 8, 9 or 10.
   pub statuses : IsTrue (is_in (DONE ∷ LEFT_OPEN ∷ UNREAD ∷ UNWRITTEN ∷ REFUSED ∷ NO_MEMORY ∷ NOT_SHOWN ∷ NOT_SETTLED ∷ []) status)
+  -- Of failures and of the record it promises what others do.
+  pub failures : TellsFailures before after status
+  pub keeps : KeepsRecord before after status found
   -- Over modelled files, at status 0 and 1 the step is settled: 0 exactly if no other test is undecided.
   pub done : (files : List StoredFile) → before.files ≡ Some files → IsTrue (is_in (DONE ∷ LEFT_OPEN ∷ []) status) →
       IsImported files names before after status found
-  -- At 0, 1 and 4 there is a record of a completed auction of the inputs, also where the folder's files are not modelled. At 3,
-  -- 5, 9 and 10 there is none.
+  -- At 0, 1 and 4 there is a record of a completed auction of the inputs, also where the folder's files are not modelled.
   pub recorded : IsTrue (is_in (DONE ∷ LEFT_OPEN ∷ UNWRITTEN ∷ []) status) →
       (inputs : Inputs) × (rec : Record) × AreInputsOf names.shown.inputs before inputs × (found ≡ Some rec) × IsRecordIn rec.order inputs rec
-  pub unrecorded : IsTrue (is_in (UNREAD ∷ REFUSED ∷ NOT_SHOWN ∷ NOT_SETTLED ∷ []) status) → found ≡ None
   -- This clause also holds where the folder's files are not modelled. At 0 and 1 the sink grew by the summary of the record, and
   -- the status is 0 exactly if no test is undecided.
   pub summed : IsTrue (is_in (DONE ∷ LEFT_OPEN ∷ []) status) →
@@ -147,18 +141,18 @@ pub record ImportPromises (names : ImportNames) (before after : Outside) (status
   -- undecided. Or the step is undecided, and the log's text is rejected or doesn't refute the step's set. Each of these reasons
   -- ends at status 10, unless memory ran out or an unsteady folder failed to read.
   pub refused : (files : List StoredFile) → before.files ≡ Some files → status ≡ NOT_SETTLED →
-      (s : IsSoundIn files names.shown) × (
+      (s : IsSoundTranscript files names.shown) × (
       ((fault : StepFault) × (open_fault (step_numbered s.rec.steps names.step) ≡ Some fault) × IsLinePrinted before after (step_line names.step fault))
       ⊎ ((log : List ℕ) × (fault : SettleErr) × IsLogIn files names.proof log × (open_fault (step_numbered s.rec.steps names.step) ≡ None)
       × (settled_text s.inputs.book s.rec names.step log ≡ Err fault) × IsLinePrinted before after (unsettled_line names.proof fault)))
-  pub refuses_step : (files : List StoredFile) (s : IsSoundIn files names.shown) (fault : StepFault) →
+  pub refuses_step : (files : List StoredFile) (s : IsSoundTranscript files names.shown) (fault : StepFault) →
       before.files ≡ Some files → open_fault (step_numbered s.rec.steps names.step) ≡ Some fault → IsStatusOr NOT_SETTLED before status
-  pub refuses_log : (files : List StoredFile) (s : IsSoundIn files names.shown) (log : List ℕ) (fault : SettleErr) →
+  pub refuses_log : (files : List StoredFile) (s : IsSoundTranscript files names.shown) (log : List ℕ) (fault : SettleErr) →
       before.files ≡ Some files → open_fault (step_numbered s.rec.steps names.step) ≡ None → IsLogIn files names.proof log →
       settled_text s.inputs.book s.rec names.step log ≡ Err fault → IsStatusOr NOT_SETTLED before status
   -- Over modelled files, if the log settles an undecided step of a sound transcript, the status is 0, 1 or 4. It is 0 or 1 by the
   -- new record's undecided tests. Otherwise memory ran out, or an unsteady folder failed to read.
-  pub complete : (files : List StoredFile) (s : IsSoundIn files names.shown) (log : List ℕ) (new : Record) →
+  pub complete : (files : List StoredFile) (s : IsSoundTranscript files names.shown) (log : List ℕ) (new : Record) →
       before.files ≡ Some files → open_fault (step_numbered s.rec.steps names.step) ≡ None → IsLogIn files names.proof log →
       settled_text s.inputs.book s.rec names.step log ≡ Ok new →
       IsStatusOr (done_status (undecided_of new.steps)) before status ⊎ (status ≡ UNWRITTEN)
@@ -176,27 +170,23 @@ pub record ImportPromises (names : ImportNames) (before after : Outside) (status
   pub refuses_long : (files : List StoredFile) (inputs : Inputs) (bytes : List ℕ) →
       before.files ≡ Some files → inputs_of files names.shown.inputs ≡ Ok inputs → bytes_of files names.shown.transcript ≡ Some bytes →
       transcript_limit < length bytes → IsStatusOr REFUSED before status
-  pub refuses_long_log : (files : List StoredFile) (s : IsSoundIn files names.shown) (bytes : List ℕ) →
+  pub refuses_long_log : (files : List StoredFile) (s : IsSoundTranscript files names.shown) (bytes : List ℕ) →
       before.files ≡ Some files → open_fault (step_numbered s.rec.steps names.step) ≡ None → bytes_of files names.proof ≡ Some bytes →
       file_limit < length bytes → IsStatusOr REFUSED before status
   -- At 3, 5, 9 and 10 no file changes. Over modelled files no file changes at any status except RESULT and NEWTRANSCRIPT.
   pub untouched : IsTrue (is_in (UNREAD ∷ REFUSED ∷ NOT_SHOWN ∷ NOT_SETTLED ∷ []) status) → after.files ≡ before.files
   pub others : (files : List StoredFile) → before.files ≡ Some files →
       MatchOption after.files ⊥ (λ now. AllOthersUnchanged files now (names.result ∷ names.transcript ∷ []))
-  -- At status 3 the folder's fault count rose. Over a steady folder whose modelled files include all those that `import` reads,
-  -- the status is not 3. If the transcript in a steady folder is sound, its step is undecided and only the log is missing, the
-  -- status is 3 or 8. At 3 the line names the log.
-  pub unread : status ≡ UNREAD → HasRisen before.faults after.faults
+  -- Over a steady folder whose modelled files include all those that `import` reads, the status is not 3. If the transcript in a
+  -- steady folder is sound, its step is undecided and only the log is missing, the status is 3 or 8. At 3 the line names the log.
   pub surely_read : (files : List StoredFile) →
       before.files ≡ Some files → before.steady ≡ true → AreAllFilesPresent files names.shown → IsSome (bytes_of files names.proof) → status ≢ UNREAD
-  pub missing_log : (files : List StoredFile) (s : IsSoundIn files names.shown) →
+  pub missing_log : (files : List StoredFile) (s : IsSoundTranscript files names.shown) →
       before.files ≡ Some files → before.steady ≡ true → open_fault (step_numbered s.rec.steps names.step) ≡ None →
       bytes_of files names.proof ≡ None → (status ≡ NO_MEMORY) ⊎ ((status ≡ UNREAD) × IsLinePrinted before after (unread_line names.proof))
-  -- At status 4 the fault count of the folder or of the sink rose. Over modelled files, the step is then settled, and either a
-  -- store failed, or both texts are stored and the sink failed at the summary. If memory ran out and there is a record, the texts
-  -- are stored up to the one where memory ran out. Status 4 never comes from a steady folder and a sink that guarantees room for
-  -- the summary.
-  pub unwritten : status ≡ UNWRITTEN → HasRisen before.faults after.faults ⊎ HasRisen before.sink_faults after.sink_faults
+  -- Over modelled files, at status 4 the step is settled, and either a store failed, or both texts are stored and the sink failed at
+  -- the summary. If memory ran out and there is a record, the texts are stored up to the one where memory ran out. Status 4 never
+  -- comes from a steady folder and a sink that guarantees room for the summary.
   pub stored : (files : List StoredFile) → before.files ≡ Some files → status ≡ UNWRITTEN →
       IsUnimported files names before after found ⊎ IsUnsummed files names before after found
   pub part_stored : (files : List StoredFile) → before.files ≡ Some files → status ≡ NO_MEMORY → IsSome found →

@@ -25,7 +25,10 @@ pub mod Messages
 pub mod Seek
 pub mod SeekPromises
 pub mod Settling
+pub mod ShowPromises
 pub mod Statuses
 pub mod Shown
 pub mod Verified
 pub mod VerifyPromises
+pub mod ViewPromises
+pub mod Views

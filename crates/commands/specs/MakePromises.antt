@@ -1,5 +1,5 @@
 -- What `make` promises, clause by clause.
-use Rattle.std.specs.Prelude.{Contains, ◌≡◌, ◌≢◌, ◌⊎◌, ◌<◌, ◌≤◌, ℕ, true, List, [], ◌∷◌, length, Option, Some, None, Ok, IsSome, IsTrue, MatchOption}
+use Rattle.std.specs.Prelude.{Contains, ◌≡◌, ◌≢◌, ◌⊎◌, ◌<◌, ◌≤◌, ℕ, true, List, [], ◌∷◌, length, Option, Some, None, Ok, IsSome, IsTrue, MatchOption, ⊤}
 use Rattle.pack_defs.specs.Lists.{is_in}
 use Rattle.pack_defs.specs.ClockRule.{ClockTest, FrozenAt}
 use Rattle.pack_defs.specs.Prices.{start_set}
@@ -10,9 +10,10 @@ use Rattle.outside_io.specs.Loads.{Writes}
 use Rattle.auction_core.specs.declared.record.Record.{Record}
 use Rattle.auction_core.specs.Backed.{undecided_of}
 use Rattle.commands.specs.declared.inputs.Inputs.{Inputs}
-use Rattle.commands.specs.Delivery.{AllOthersUnchanged, AreStored, AreStoredUpTo}
+use Rattle.commands.specs.Delivery.{AllOthersUnchanged, AreStored, AreTextsStoredUpTo}
 use Rattle.commands.specs.Make.{make_inputs, make_texts}
 use Rattle.commands.specs.Outside.{Outside, IsLinePrinted}
+use Rattle.commands.specs.Promises.{IsSomeRecord, TellsFailures}
 use Rattle.commands.specs.Records.{IsRecordOf, done_status, outcome, run_order, summary_of}
 use Rattle.commands.specs.Messages.{unwritten_line}
 use Rattle.commands.specs.Statuses.{DONE, LEFT_OPEN, UNWRITTEN, NO_MEMORY}
@@ -45,13 +46,6 @@ pub record IsMakeDecided (names : MakeNames) (before after : Outside) : Type 0 w
   pub paid : (f : FrozenAt) → Contains (outcome run_order inputs []).frozen f →
       IsThresholdPrice inputs.scenario inputs.book run_order f.station f.price
 
--- The generated files are stored only up to one name. The files before it are stored, that name may hold anything or be gone, and
--- all other files are unchanged.
-pub record AreMakeFilesStoredUpTo (files : List StoredFile) (names : MakeNames) (after : Outside) : Type 0 where
-  pub new : List StoredFile
-  pub now_modelled : after.files ≡ Some new
-  pub part : AreStoredUpTo files new (make_texts names)
-
 -- A store failed in a folder that isn't steady, and its fault count rose. There is no record.
 pub record IsMakeUnstored (before after : Outside) (found : Option Record) : Type 0 where
   pub none : found ≡ None
@@ -70,6 +64,9 @@ pub record IsSummaryUnwritten (names : MakeNames) (before after : Outside) (foun
 pub record MakePromises (names : MakeNames) (before after : Outside) (status : ℕ) (found : Option Record) : Type 0 where
   -- For every seed and size the status is 0, 1, 4 or 8: the auction was completed, something was not written, or memory ran out.
   pub statuses : IsTrue (is_in (DONE ∷ LEFT_OPEN ∷ UNWRITTEN ∷ NO_MEMORY ∷ []) status)
+  -- Of failures it promises what others do. Any record is backed.
+  pub failures : TellsFailures before after status
+  pub backed : MatchOption found ⊤ IsSomeRecord
   -- At status 0 and 1 the three names hold the generated files and every other file is unchanged, over modelled files. Over any
   -- files, the record is of the completed auction of the generated files, and the sink grew by its summary. The status is 0
   -- exactly if no test is undecided, and `IsMakeDecided` then holds.
@@ -85,7 +82,7 @@ pub record MakePromises (names : MakeNames) (before after : Outside) (status : �
   -- guarantees room for the summary, whichever tests are undecided.
   pub unwritten : status ≡ UNWRITTEN → IsMakeUnstored before after found ⊎ IsSummaryUnwritten names before after found
   pub unstored : (files : List StoredFile) → before.files ≡ Some files → status ≡ UNWRITTEN → found ≡ None →
-      (upto : AreMakeFilesStoredUpTo files names after) × IsLinePrinted before after (unwritten_line upto.part.failed.name)
+      (upto : AreTextsStoredUpTo files (make_texts names) after) × IsLinePrinted before after (unwritten_line upto.part.failed.name)
   pub summary_unwritten : (files : List StoredFile) → before.files ≡ Some files → status ≡ UNWRITTEN → IsSome found → AreMakeFilesStored files names after
   pub steady_never_fails : before.steady ≡ true →
       ((inputs : Inputs) (undecided : List ClockTest) → make_inputs names.seed names.size ≡ Ok inputs → length (summary_of inputs undecided) ≤ before.sure) →
@@ -94,7 +91,7 @@ pub record MakePromises (names : MakeNames) (before after : Outside) (status : �
   -- are stored.
   pub unrecorded : status ≡ NO_MEMORY → found ≡ None
   pub out_of_memory : (files : List StoredFile) → before.files ≡ Some files → status ≡ NO_MEMORY →
-      (after.files ≡ before.files) ⊎ (AreMakeFilesStoredUpTo files names after ⊎ AreMakeFilesStored files names after)
+      (after.files ≡ before.files) ⊎ (AreTextsStoredUpTo files (make_texts names) after ⊎ AreMakeFilesStored files names after)
   -- Over modelled files, no file changes except the three.
   pub others : (files : List StoredFile) → before.files ≡ Some files →
       MatchOption after.files ⊥ (λ new. AllOthersUnchanged files new (make_output_names names))

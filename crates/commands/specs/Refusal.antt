@@ -7,7 +7,7 @@ use Rattle.scenario_json.specs.declared.error.ScenarioErr.TheVariants.{Syntax, M
 use Rattle.scenario_json.specs.declared.name.Name.{Name}
 use Rattle.scenario_json.specs.Name.{name_text}
 use Rattle.command_words.specs.declared.run_words.Input.{Input}
-use Rattle.command_words.specs.declared.run_words.Input.TheVariants.{Domains, Rows, Scenario as ScenarioFile, Owners as OwnersFile, List as ListFile}
+use Rattle.command_words.specs.declared.run_words.Input.TheVariants.{Domains, Scenario as ScenarioFile, Owners as OwnersFile, List as ListFile}
 use Rattle.commands.specs.declared.messages.refusal.Refusal.{Refusal}
 use Rattle.commands.specs.declared.messages.refusal.Refusal.TheVariants.{TooLong, Row, Scenario, MissingDomain, Owners, BadLine, EmptyList}
 use Rattle.owner_line.specs.declared.error.OwnerWhy.{OwnerWhy}

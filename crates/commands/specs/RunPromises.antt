@@ -1,5 +1,5 @@
 -- What a run promises, in either test order: `run` and `live`, and `resume` where it continues an auction.
-use Rattle.std.specs.Prelude.{Contains, ◌≡◌, ◌≢◌, ◌⊎◌, ◌<◌, ◌≤◌, ℕ, true, List, [], ◌∷◌, length, Option, Some, Ok, None, IsFalse, IsSome, IsTrue, MatchOption}
+use Rattle.std.specs.Prelude.{Contains, ◌≡◌, ◌≢◌, ◌⊎◌, ◌<◌, ◌≤◌, ℕ, true, List, [], ◌∷◌, length, Option, Some, Ok, None, IsFalse, IsSome, IsTrue, MatchOption, ⊤}
 use Rattle.pack_defs.specs.Lists.{is_in}
 use Rattle.pack_defs.specs.declared.order.Order.{Order}
 use Rattle.pack_defs.specs.ClockRule.{ClockTest, FrozenAt}
@@ -19,9 +19,10 @@ use Rattle.commands.specs.Ends.{AreInputsOf, auction_texts, IsStatusOr}
 use Rattle.commands.specs.Inputs.{inputs_of}
 use Rattle.commands.specs.LivePromises.{IsLive}
 use Rattle.commands.specs.Outside.{Outside, IsLinePrinted}
+use Rattle.commands.specs.Promises.{KeepsRecord, ReadsInputs, TellsFailures}
 use Rattle.commands.specs.Records.{IsEndedRecordIn, IsOpenRecordIn, IsRecordIn, StartFits, StartUnfit, done_status, outcome, result_of, summary_in}
 use Rattle.commands.specs.Messages.{open_line, unfit_line, unwritten_line}
-use Rattle.commands.specs.Statuses.{DONE, LEFT_OPEN, UNWRITTEN, START_UNFIT, START_OPEN, NO_MEMORY}
+use Rattle.commands.specs.Statuses.{DONE, LEFT_OPEN, UNREAD, UNWRITTEN, REFUSED, START_UNFIT, START_OPEN, NO_MEMORY}
 use Rattle.commands.specs.Verified.{verified}
 use Rattle.command_words.specs.Words.{RunNames, output_names}
 
@@ -135,11 +136,19 @@ pub record ModelledRun (order : Order) (files : List StoredFile) (names : RunNam
   -- If the start set of accepted inputs fits, the status is 0, 1, 4 or 7, unless memory ran out or an unsteady folder failed.
   pub complete : (inputs : Inputs) → inputs_of files names.inputs ≡ Ok inputs → StartFits inputs →
       IsStatusOr DONE before status ⊎ IsTrue (is_in (LEFT_OPEN ∷ UNWRITTEN ∷ START_OPEN ∷ []) status)
-  -- If an owners' file is named, any record also keeps the promises of a live auction.
+  -- If an owners' file is named, any record also keeps the promises of a live auction. Otherwise it has no owners.
   pub live : (owners : List ℕ) → names.inputs.owners ≡ Some owners → IsSome found → IsLive files names.inputs owners found
+  pub without_owners : names.inputs.owners ≡ None → MatchOption found ⊤ (λ rec. rec.scenario.owners ≡ None)
 
 -- What a run in this test order promises, by its status and its record.
 pub record RunPromises (order : Order) (names : RunNames) (before after : Outside) (status : ℕ) (found : Option Record) : Type 0 where
+  -- The status is 0, 1 or from 3 to 8. At 6 and 7 no file changes.
+  pub statuses : IsTrue (is_in (DONE ∷ LEFT_OPEN ∷ UNREAD ∷ UNWRITTEN ∷ REFUSED ∷ START_UNFIT ∷ START_OPEN ∷ NO_MEMORY ∷ []) status)
+  pub unfit_untouched : IsTrue (is_in (START_UNFIT ∷ START_OPEN ∷ []) status) → after.files ≡ before.files
+  -- Of the inputs, of failures and of the record it promises what others do.
+  pub inputs : ReadsInputs names.inputs before after status
+  pub failures : TellsFailures before after status
+  pub keeps : KeepsRecord before after status found
   -- Where the folder's files are modelled, the run keeps the promises of `ModelledRun`.
   pub modelled : (files : List StoredFile) → before.files ≡ Some files → ModelledRun order files names before after status found
   -- This clause also holds where the folder's files are not modelled. At status 0 and 1 the record is of a completed auction of

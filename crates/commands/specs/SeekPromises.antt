@@ -17,6 +17,7 @@ use Rattle.commands.specs.declared.top_channel_runs.LeastTop.{LeastTop}
 use Rattle.commands.specs.Delivery.{AllOthersUnchanged, AreStored, NamedText, named}
 use Rattle.commands.specs.Ends.{AreSought, IsStatusOr}
 use Rattle.commands.specs.Outside.{Outside, IsLinePrinted}
+use Rattle.commands.specs.Promises.{KeepsRecord, ReadsInputs, TellsFailures}
 use Rattle.commands.specs.Records.{IsOpenRecordOf, IsRefutedRecordOf}
 use Rattle.commands.specs.Messages.{open_line, unfit_line, unwritten_line}
 use Rattle.commands.specs.Seek.{IsLeastTop, IsSeekable, base_of, inputs_at, seekable_of, top_status, top_text}
@@ -79,6 +80,11 @@ pub record IsTopOpen (names : SeekNames) (before after : Outside) (found : Optio
 pub record SeekPromises (names : SeekNames) (before after : Outside) (status : ℕ) (found below : Option Record) : Type 0 where
   -- The status is 0, 1 or from 3 to 8.
   pub statuses : IsTrue (is_in (DONE ∷ LEFT_OPEN ∷ UNREAD ∷ UNWRITTEN ∷ REFUSED ∷ START_UNFIT ∷ START_OPEN ∷ NO_MEMORY ∷ []) status)
+  -- Of the inputs, of failures and of the first record it promises what others do. At 6 and 7 no file changes.
+  pub inputs : ReadsInputs (seek_inputs names) before after status
+  pub failures : TellsFailures before after status
+  pub keeps : KeepsRecord before after status found
+  pub unfit_untouched : IsTrue (is_in (START_UNFIT ∷ START_OPEN ∷ []) status) → after.files ≡ before.files
   -- Also where the folder's files are not modelled, a top channel was found at status 0, 1 and 4. At 0 and 1 it was printed. At 0
   -- the start set fits up to no smaller channel from 14 on. If the top is then above 14, the second record's start is shown not
   -- to fit. At 1 the test of one channel less is undecided, and that channel was printed too. At 8 either there is no record, or

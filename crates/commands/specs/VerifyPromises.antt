@@ -18,7 +18,9 @@ use Rattle.command_words.specs.declared.run_words.Input.{Input}
 use Rattle.commands.specs.declared.messages.refusal.Refusal.{Refusal}
 use Rattle.commands.specs.Ends.{AreInputsOf, IsStatusOr}
 use Rattle.commands.specs.Inputs.{inputs_of, transcript_limit}
+use Rattle.commands.specs.LivePromises.{IsLive}
 use Rattle.commands.specs.Outside.{Outside, IsLinePrinted}
+use Rattle.commands.specs.Promises.{KeepsRecord, TellsFailures}
 use Rattle.commands.specs.Records.{IsRecordIn, done_status, outcome, result_of}
 use Rattle.commands.specs.Refusal.{refusal_line}
 use Rattle.command_words.specs.Words.{name_of}
@@ -32,6 +34,14 @@ pub record IsGiven (files : List StoredFile) (names : VerifyNames) (inputs : Inp
   pub accepted : inputs_of files names.inputs ≡ Ok inputs
   pub modelled : bytes_of files names.transcript ≡ Some text
   pub within : length text ≤ transcript_limit
+
+-- The transcript that the files hold is sound.
+pub record IsSoundTranscript (files : List StoredFile) (names : VerifyNames) : Type 0 where
+  pub inputs : Inputs
+  pub text : List ℕ
+  pub given : IsGiven files names inputs text
+  pub rec : Record
+  pub shown : verified inputs text ≡ Ok rec
 
 -- The transcript that the files hold is sound, and its record is of the auction of the inputs in the transcript's order. The
 -- record's result is the clock rule's, with the record's undecided tests. Its map has exactly the stations on air at the end and
@@ -57,12 +67,64 @@ pub record AreAllFilesPresent (files : List StoredFile) (names : VerifyNames) : 
   pub owners : MatchOption names.inputs.owners ⊤ (λ name. IsSome (bytes_of files name))
   pub transcript : IsSome (bytes_of files names.transcript)
 
+-- What a command promises of the inputs and of the transcript, if it reads no other file.
+pub record ReadsTranscript (names : VerifyNames) (before after : Outside) (status : ℕ) : Type 0 where
+  -- Over modelled files, at status 5 an input is too long or rejected, or the inputs are accepted and the transcript is too long.
+  -- The line says which. Files of this kind end at status 5, unless memory ran out or an unsteady folder failed.
+  pub halted : (files : List StoredFile) → before.files ≡ Some files → status ≡ REFUSED →
+      ((why : Refusal) × (inputs_of files names.inputs ≡ Err (Refused why)) × IsLinePrinted before after (refusal_line names.inputs why))
+      ⊎ ((inputs : Inputs) × (inputs_of files names.inputs ≡ Ok inputs) × (bytes : List ℕ) × (bytes_of files names.transcript ≡ Some bytes)
+      × (transcript_limit < length bytes) × IsLinePrinted before after (long_line names.transcript))
+  pub refuses_input : (files : List StoredFile) (why : Refusal) →
+      before.files ≡ Some files → inputs_of files names.inputs ≡ Err (Refused why) → IsStatusOr REFUSED before status
+  pub refuses_long : (files : List StoredFile) (inputs : Inputs) (bytes : List ℕ) →
+      before.files ≡ Some files → inputs_of files names.inputs ≡ Ok inputs → bytes_of files names.transcript ≡ Some bytes →
+      transcript_limit < length bytes → IsStatusOr REFUSED before status
+  -- At status 3 the line names an input or the transcript. Over a steady folder whose modelled files include all of them, the
+  -- status is not 3. If a steady folder's reading first stops at a missing file, the line names that file at status 3, or the
+  -- status is 8.
+  pub unread_says : status ≡ UNREAD →
+      ((input : Input) × IsLinePrinted before after (unread_line (name_of names.inputs input))) ⊎ IsLinePrinted before after (unread_line names.transcript)
+  pub surely_read : (files : List StoredFile) → before.files ≡ Some files → before.steady ≡ true → AreAllFilesPresent files names → status ≢ UNREAD
+  pub missing : (files : List StoredFile) (input : Input) →
+      before.files ≡ Some files → before.steady ≡ true → inputs_of files names.inputs ≡ Err (CannotRead input) →
+      (status ≡ NO_MEMORY) ⊎ ((status ≡ UNREAD) × IsLinePrinted before after (unread_line (name_of names.inputs input)))
+  pub missing_transcript : (files : List StoredFile) (inputs : Inputs) →
+      before.files ≡ Some files → before.steady ≡ true → inputs_of files names.inputs ≡ Ok inputs → bytes_of files names.transcript ≡ None →
+      (status ≡ NO_MEMORY) ⊎ ((status ≡ UNREAD) × IsLinePrinted before after (unread_line names.transcript))
+
+-- What a command that checks a transcript promises of its faults.
+pub record ChecksTranscript (names : VerifyNames) (before after : Outside) (status : ℕ) : Type 0 where
+  -- Over modelled files, at status 9 the transcript's text is rejected or one of its steps doesn't verify. The line says which is
+  -- the first fault and why. A transcript with a fault of this kind ends at status 9, unless memory ran out or an unsteady folder
+  -- failed to read.
+  pub refused : (files : List StoredFile) → before.files ≡ Some files → status ≡ NOT_SHOWN →
+      (inputs : Inputs) × (text : List ℕ) × IsGiven files names inputs text × (fault : TranscriptFault)
+      × (verified inputs text ≡ Err fault) × IsLinePrinted before after (fault_line names.transcript fault)
+  pub refuses : (files : List StoredFile) (inputs : Inputs) (text : List ℕ) (fault : TranscriptFault) →
+      before.files ≡ Some files → IsGiven files names inputs text → verified inputs text ≡ Err fault → IsStatusOr NOT_SHOWN before status
+  -- The transcript of any backed record of a completed auction does not end at 9, in either order, if the record satisfies
+  -- `IsHeld`.
+  pub of_a_record : (files : List StoredFile) (inputs : Inputs) (rec : Record) →
+      before.files ≡ Some files → IsBacked inputs.scenario inputs.book rec.order rec → rec.ending ≡ Done → IsHeld rec →
+      IsGiven files names inputs (transcript_text inputs.scenario inputs.book rec) → status ≢ NOT_SHOWN
+
 -- What `verify` promises, by its status and its record.
 pub record VerifyPromises (names : VerifyNames) (before after : Outside) (status : ℕ) (found : Option Record) : Type 0 where
   -- The status is 0, 1, 3, 4, 5, 8 or 9.
   pub statuses : IsTrue (is_in (DONE ∷ LEFT_OPEN ∷ UNREAD ∷ UNWRITTEN ∷ REFUSED ∷ NO_MEMORY ∷ NOT_SHOWN ∷ []) status)
   -- No file changes.
   pub untouched : after.files ≡ before.files
+  -- Of the inputs and the transcript, of failures and of the record it promises what others do.
+  pub reads : ReadsTranscript names before after status
+  pub checks : ChecksTranscript names before after status
+  pub failures : TellsFailures before after status
+  pub keeps : KeepsRecord before after status found
+  -- Over modelled files, if an owners' file is named, any record is of the live auction. Otherwise it has no owners.
+  pub live : (files : List StoredFile) (owners : List ℕ) →
+      before.files ≡ Some files → names.inputs.owners ≡ Some owners → IsSome found → IsLive files names.inputs owners found
+  pub without_owners : (files : List StoredFile) →
+      before.files ≡ Some files → names.inputs.owners ≡ None → MatchOption found ⊤ (λ rec. rec.scenario.owners ≡ None)
   -- Over modelled files, at status 0 and 1 the transcript is sound and its record's result was printed: 0 exactly if no test is
   -- undecided. Over modelled files, at 4 the transcript is sound and the sink failed at the result, for which it did not
   -- guarantee room. The sink grew by the result or by some of it, from the first byte on. Over any files there is a record of a
@@ -87,14 +149,6 @@ pub record VerifyPromises (names : VerifyNames) (before after : Outside) (status
       (inputs : Inputs) × (rec : Record) × AreInputsOf names.inputs before inputs × (found ≡ Some rec) × IsRecordIn rec.order inputs rec
       × (status ≡ done_status (undecided_of rec.steps))
       × Writes before.held after.held (result_of rec.order inputs (undecided_of rec.steps)) (Ok tt)
-  -- Over modelled files, at status 9 the transcript's text is rejected or one of its steps doesn't verify. The line says which is
-  -- the first fault and why. A transcript with a fault of this kind ends at status 9, unless memory ran out or an unsteady folder
-  -- failed to read.
-  pub refused : (files : List StoredFile) → before.files ≡ Some files → status ≡ NOT_SHOWN →
-      (inputs : Inputs) × (text : List ℕ) × IsGiven files names inputs text × (fault : TranscriptFault)
-      × (verified inputs text ≡ Err fault) × IsLinePrinted before after (fault_line names.transcript fault)
-  pub refuses : (files : List StoredFile) (inputs : Inputs) (text : List ℕ) (fault : TranscriptFault) →
-      before.files ≡ Some files → IsGiven files names inputs text → verified inputs text ≡ Err fault → IsStatusOr NOT_SHOWN before status
   -- Over modelled files a sound transcript is accepted: the status is 4, or 0 or 1 by its undecided tests. Otherwise memory ran
   -- out, or an unsteady folder failed to read.
   pub complete : (files : List StoredFile) (inputs : Inputs) (text : List ℕ) (rec : Record) →
@@ -106,30 +160,6 @@ pub record VerifyPromises (names : VerifyNames) (before after : Outside) (status
       before.files ≡ Some files → IsBacked inputs.scenario inputs.book rec.order rec → rec.ending ≡ Done → IsHeld rec →
       IsGiven files names inputs (transcript_text inputs.scenario inputs.book rec) →
       IsStatusOr (done_status (undecided_of rec.steps)) before status ⊎ (status ≡ UNWRITTEN)
-  -- Over modelled files, at status 5 an input is too long or rejected, or the inputs are accepted and the transcript is too long.
-  -- The line says which. Files of this kind end at status 5, unless memory ran out or an unsteady folder failed.
-  pub halted : (files : List StoredFile) → before.files ≡ Some files → status ≡ REFUSED →
-      ((why : Refusal) × (inputs_of files names.inputs ≡ Err (Refused why)) × IsLinePrinted before after (refusal_line names.inputs why))
-      ⊎ ((inputs : Inputs) × (inputs_of files names.inputs ≡ Ok inputs) × (bytes : List ℕ) × (bytes_of files names.transcript ≡ Some bytes)
-      × (transcript_limit < length bytes) × IsLinePrinted before after (long_line names.transcript))
-  pub refuses_input : (files : List StoredFile) (why : Refusal) →
-      before.files ≡ Some files → inputs_of files names.inputs ≡ Err (Refused why) → IsStatusOr REFUSED before status
-  pub refuses_long : (files : List StoredFile) (inputs : Inputs) (bytes : List ℕ) →
-      before.files ≡ Some files → inputs_of files names.inputs ≡ Ok inputs → bytes_of files names.transcript ≡ Some bytes →
-      transcript_limit < length bytes → IsStatusOr REFUSED before status
-  -- At status 3 the folder's fault count rose, and the line names an input or the transcript. Over a steady folder whose modelled
-  -- files include all those that `verify` reads, the status is not 3. If a steady folder's reading first stops at a missing file,
-  -- the line names that file at status 3, or the status is 8.
-  pub unread : status ≡ UNREAD → HasRisen before.faults after.faults
-  pub unread_says : status ≡ UNREAD →
-      ((input : Input) × IsLinePrinted before after (unread_line (name_of names.inputs input))) ⊎ IsLinePrinted before after (unread_line names.transcript)
-  pub surely_read : (files : List StoredFile) → before.files ≡ Some files → before.steady ≡ true → AreAllFilesPresent files names → status ≢ UNREAD
-  pub missing : (files : List StoredFile) (input : Input) →
-      before.files ≡ Some files → before.steady ≡ true → inputs_of files names.inputs ≡ Err (CannotRead input) →
-      (status ≡ NO_MEMORY) ⊎ ((status ≡ UNREAD) × IsLinePrinted before after (unread_line (name_of names.inputs input)))
-  pub missing_transcript : (files : List StoredFile) (inputs : Inputs) →
-      before.files ≡ Some files → before.steady ≡ true → inputs_of files names.inputs ≡ Ok inputs → bytes_of files names.transcript ≡ None →
-      (status ≡ NO_MEMORY) ⊎ ((status ≡ UNREAD) × IsLinePrinted before after (unread_line names.transcript))
   -- At status 4 the sink's fault count rose. Over modelled files the status is not 4 if the sink guarantees room for the result
   -- of every record that the transcript could show.
   pub unwritten : status ≡ UNWRITTEN → HasRisen before.sink_faults after.sink_faults

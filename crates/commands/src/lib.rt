@@ -9,11 +9,14 @@
 //! - `finish`, `status`: how a command ends, and the exit statuses.
 //! - `messages`: prints messages, with `explain`, `refusal` and `fault` in its folder.
 //! - `check`: checks the inputs and runs nothing.
-//! - `shown`: reads a transcript and checks each of its steps. `verify`, `export` and `import` begin with it.
+//! - `shown`: reads a transcript and checks each of its steps. `verify`, the views and `import` begin with it.
 //! - `verify`: prints the result that a transcript certifies, or its first invalid step.
+//! - `view`: the commands that verify a transcript and answer by texts about it.
+//! - `show`: the view that stores the result and the channels that a transcript certifies.
+//! - `export`: the view that stores the formula of a step's test.
 //! - `resume`: continues an auction from the beginning of its transcript.
 //! - `settling`: checks whether a step of a record can be exported or settled. `export` and `import` share it.
-//! - `export`, `import`: store the formula of an undecided test, and settle the test by a proof from outside.
+//! - `import`: settles an undecided test by a proof from outside.
 //! - `seek`, `top_channel_runs`: find the least top channel at which the stations that start on air fit, by a run for each top.
 //! - `batch`, `batch_run`: run the auctions of many scenarios over the same constraint files.
 //! - `make`: generates an auction.
@@ -23,7 +26,7 @@ pub mod batch;
 mod batch_run;
 pub mod check;
 mod delivery;
-pub mod export;
+mod export;
 pub mod finish;
 pub mod import;
 pub mod inputs;
@@ -33,7 +36,9 @@ pub mod resume;
 pub mod run;
 pub mod seek;
 mod settling;
+mod show;
 mod shown;
 pub mod status;
 mod top_channel_runs;
 pub mod verify;
+pub mod view;

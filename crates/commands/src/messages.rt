@@ -37,6 +37,14 @@ pub fn print_line<K: Sink>(out: &mut K, parts: &[&str])
     let _ = write_parts(out, parts);
 }
 
+/// Prints this text, as far as the sink takes it. Allocates no memory.
+pub fn print_text<K: Sink>(out: &mut K, text: &[u8])
+    ensures says { IsLinePrintedTo (K.modelled out.old) (K.modelled out.new) text.now }
+    ensures counted { (K.modelled out.old).faults ≤ (K.modelled out.new).faults }
+{
+    let _ = out.write(text);
+}
+
 /// Prints what is wrong with the file of this name and at which place. Allocates no memory.
 pub fn print_line_at<'p, K: Sink>(out: &mut K, name: &'p str, what: &'p str, at: u64, why: &'p str)
     ensures says { IsLinePrintedTo (K.modelled out.old) (K.modelled out.new) (name.now ++ (what.now ++ (decimal at ++ why.now))) }

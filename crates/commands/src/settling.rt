@@ -2,7 +2,7 @@
 //!
 //! `export` and `import` use it.
 
-ghost use Rattle.std.specs.Prelude.{◌≡◌, ◌≤◌, ◌++◌, option_map};
+ghost use Rattle.std.specs.Prelude.{◌≡◌, ◌≤◌, ◌++◌, IfOk, option_map};
 ghost use Rattle.commands.specs.Outside.{IsLinePrintedTo};
 ghost use Rattle.commands.specs.Settling.{unsettled_line, missing_fault, open_fault, step_line, step_why, unlogged_text};
 ghost use Rattle.undecided_tests.specs.Queries.{step_numbered};
@@ -12,6 +12,7 @@ use auction_core::record::{Record, Shown, Step};
 use itoa::Buffer;
 use lrat_text::LratErr;
 use outside_io::sink::Sink;
+use std::alloc::{AllocError as NoMemory, Global};
 use undecided_tests::settle::SettleErr;
 
 /// Why a step is not exported or settled.
@@ -63,6 +64,22 @@ fn step_why(fault: StepFault) -> &'static str
         StepFault::NoSuchStep => ": no such step\n",
         StepFault::NotUndecided => ": not undecided\n",
     }
+}
+
+/// Returns the line that says why the step of this number is not exported or settled.
+///
+/// # Errors
+///
+/// Memory ran out.
+pub fn step_line(alloc: Global, step: u32, fault: StepFault) -> Result<Vec<u8>, NoMemory>
+    ensures { IfOk result (λ text. text.items ≡ step_line step fault) }
+{
+    let mut number = Buffer::new();
+    let mut text = Vec::new(alloc);
+    text.extend_from_slice(b"step ")?;
+    text.extend_from_slice(number.format(step).as_bytes())?;
+    text.extend_from_slice(step_why(fault).as_bytes())?;
+    Ok(text)
 }
 
 /// Prints why the step of this number is not exported or settled. Allocates no memory.

@@ -1,6 +1,6 @@
 //! Reads the inputs and a transcript, checks each of its steps, and returns the record that the transcript certifies.
 //!
-//! `verify`, `export` and `import` begin with `read_verified`. `resume` uses `read_text` and the messages.
+//! `verify`, the views and `import` begin with `read_verified`. `resume` uses `read_text` and the messages.
 
 ghost use Rattle.std.specs.Prelude.{◌≡◌, ◌≢◌, ◌⊎◌, ◌<◌, ◌≤◌, ◌+◌, [], ℕ, IfErr, IfOk, List, None, Some, Ok, Err, OnOk};
 ghost use Rattle.outside_io.specs.Pieces.{piece_size};
