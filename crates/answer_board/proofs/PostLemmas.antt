@@ -15,9 +15,8 @@ use Rattle.auction_core.specs.declared.posting.Reply.{Reply}
 use Rattle.auction_core.specs.declared.posting.Said.{Said}
 use Rattle.auction_core.specs.declared.posting.Said.TheVariants.{Good, Bad}
 use Rattle.auction_core.specs.Auction.{AuctionView, entry_with_reply, accepted_answer}
-use Rattle.auction_core.specs.Backed.{IsValidOf}
 use Rattle.auction_core.specs.Replay.{EntryView, entry_of, kept_answer, replay_from}
-use Rattle.auction_core.specs.Rule.{Answers}
+use Rattle.auction_core.specs.Rule.{Answers, IsValidOf}
 use Rattle.auction_core.specs.QuerySession.{QuerySessionView}
 use Rattle.auction_core.specs.Said.{AnswersIfGood, IsJudgementOf, MayBeTaken, JudgesAnswer, taken, reply_to_judged, with_answer}
 use Rattle.auction_core.specs.State.{CoreState, has_ended, task_of}

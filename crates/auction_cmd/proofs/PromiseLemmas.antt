@@ -18,6 +18,7 @@ use Rattle.auction_cmd.specs.Program.{CommandEnds, CommandPromises, Declines, Ha
 use Rattle.command_words.specs.Words.{Command, run, check, verify, show, resume, seek, batch, make, export, import, command_of, repeated_by}
 use Rattle.command_words.proofs.NumberLemmas.{import-valued, resume-valued}
 use Rattle.commands.proofs.OutputNames.{own-names, own-resumed}
+use Rattle.commands.proofs.RunLemmas.{run-verifiable}
 use Rattle.commands.proofs.SeekLemmas.{seek-promises}
 use Rattle.auction_cmd.proofs.BatchLemmas.{batch-promises}
 use Rattle.auction_cmd.proofs.CheckLemmas.{check-promises}
@@ -31,7 +32,7 @@ use Rattle.auction_cmd.proofs.VerifyLemmas.{verify-promises}
 
 module _ (before after : Outside) (finish : Finish) where
   pub command-promises : (asked : Command) → repeated_by asked ≡ None → CommandEnds asked before after finish → CommandPromises asked before after finish
-  command-promises (run names) once (end, others) = (run-promises run_order names before after finish.status finish.result end (inr (own-names names once)), others)
+  command-promises (run names) once (end, others) = (run-promises run_order names before after finish.status finish.result end (inr (own-names names once)), run-verifiable run_order names before after finish.status finish.result end, others)
   command-promises (check names) once (end, others) = (check-promises names before after finish.status finish.result end, others)
   command-promises (verify names) once (end, others) = (verify-promises names before after finish.status finish.result end, others)
   command-promises (show names) once (end, none) = (show-promises names before after finish.status once end, none)

@@ -37,7 +37,7 @@ use Rattle.commands.proofs.DeliveryLemmas.{Ended, ended-of, for-told}
 use Rattle.commands.proofs.DeliveryLemmas.Ended.{Both, NotSaid, NotStored, OutOfRoom}
 use Rattle.auction_cmd.proofs.ResumeCutLemmas.{cut-begun, verified-fits, whole-again, whole-begun, whole-started}
 use Rattle.commands.proofs.ResumeEndLemmas.{no-verdict}
-use Rattle.commands.proofs.RunLemmas.{absent, run-backed, run-done, run-ended, run-others, run-untouched, run-unwritten, IsOnce}
+use Rattle.commands.proofs.RunLemmas.{absent, run-backed, run-done, run-ended, run-others, run-untouched, run-unwritten, run-verifiable, IsOnce}
 use Rattle.auction_cmd.proofs.RunPromiseLemmas.{run-promises}
 use Rattle.commands.proofs.StartLemmas.{at-end, run-complete, run-memory, run-unfits}
 use Rattle.commands.proofs.Statuses.{apart-lists, off, one-of, within}
@@ -205,6 +205,7 @@ module _ (names : ResumeNames) (before after : Outside) (status : ℕ) (found : 
     goes_on = w.goes;
     valued = valued;
     as_run = run-promises (order_kept w.kept) names.run_files before after status found (as-run w) once;
+    verifiable = run-verifiable (order_kept w.kept) names.run_files before after status found (as-run w);
     unstarted = went-unstarted w;
   }
 

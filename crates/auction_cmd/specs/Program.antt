@@ -16,6 +16,7 @@ use Rattle.commands.specs.RunPromises.{RunPromises}
 use Rattle.commands.specs.SeekPromises.{SeekPromises}
 use Rattle.commands.specs.ShowPromises.{ShowPromises}
 use Rattle.commands.specs.Statuses.{NO_COMMAND, NO_MEMORY, REFUSED}
+use Rattle.commands.specs.Verifiable.{IsVerifiable}
 use Rattle.commands.specs.VerifyPromises.{VerifyPromises}
 use Rattle.commands.specs.Views.{ViewEnds, export_answer, show_answer}
 use Rattle.auction_cmd.specs.BatchPromises.{BatchPromises}
@@ -76,9 +77,10 @@ pub data ProgramEnds (plan : Plan) (before after : Outside) (finish : Finish) : 
 
 -- ---- what it promises
 
--- What this command promises. Only `seek` has a second record, and only `batch` has more.
+-- What this command promises. What `run` and `resume` write, `verify` accepts. Only `seek` has a second record, and only `batch` has more.
 abbrev pub CommandPromises : Command → Outside → Outside → Finish → Type 0
-CommandPromises (run names) before after finish = RunPromises run_order names before after finish.status finish.result × HasNoOther finish
+CommandPromises (run names) before after finish =
+    RunPromises run_order names before after finish.status finish.result × IsVerifiable names.inputs before finish.result × HasNoOther finish
 CommandPromises (check names) before after finish = CheckPromises names before after finish.status finish.result × HasNoOther finish
 CommandPromises (verify names) before after finish = VerifyPromises names before after finish.status finish.result × HasNoOther finish
 CommandPromises (show names) before after finish = ShowPromises names before after finish.status × HasNoRecord finish

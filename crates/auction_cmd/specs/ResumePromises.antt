@@ -16,6 +16,7 @@ use Rattle.commands.specs.Records.{IsEndedRecordIn, StartFits, StartUnfit, done_
 use Rattle.commands.specs.Resume.{ContinuesFrom, begun}
 use Rattle.commands.specs.RunPromises.{RunPromises}
 use Rattle.commands.specs.Statuses.{DONE, LEFT_OPEN, UNREAD, UNWRITTEN, REFUSED, START_UNFIT, START_OPEN, NO_MEMORY, NOT_SHOWN}
+use Rattle.commands.specs.Verifiable.{IsVerifiable}
 use Rattle.commands.specs.Verified.{fault_line, verified}
 use Rattle.commands.specs.VerifyPromises.{IsGiven, ReadsTranscript}
 use Rattle.command_words.specs.Words.{ResumeNames, resume_input_names, output_names}
@@ -35,8 +36,9 @@ pub record IsResumed (names : ResumeNames) (before after : Outside) (status : �
   pub goes_on : ContinuesFrom kept rec
   -- No owners' file is named, so what a run promises of prices applies.
   pub valued : names.run_files.inputs.owners ≡ None
-  -- Everything that a run promises holds, in the beginning's order.
+  -- Everything that a run promises holds, in the beginning's order, and `verify` accepts what it writes.
   pub as_run : RunPromises (order_kept kept) names.run_files before after status found
+  pub verifiable : IsVerifiable names.run_files.inputs before found
   -- At status 6 and 7 what is kept has no verdict on the start set.
   pub unstarted : IsTrue (is_in (START_UNFIT ∷ START_OPEN ∷ []) status) → kept.start ≡ None
 

@@ -21,8 +21,9 @@ use Rattle.auction_core.specs.declared.record.Shown.TheVariants.{Fits, Refuted, 
 use Rattle.auction_core.specs.declared.posting.Reply.TheVariants.{Ended, WrongQuery, Stranger}
 use Rattle.auction_core.specs.State.{CoreState, NotedSpent, test_of, shows_room, start_delta, settled, settled_unasked, advance_to_query, started, before_start, start_unasked, opening, has_ended, test_task, start_task, first_task, task_of, after_first_test, answered}
 use Rattle.auction_core.specs.Take.{PostingView, fault_of, unjudged_reply, take, after_postings}
-use Rattle.auction_core.specs.Backed.{IsValidOf, IsSettledBy, IsStartShown, IsStepShown, after_steps, AreShown, after_start}
-use Rattle.auction_core.specs.Rule.{Answers, SettlesQuery, AreValid, AreNoted, IsQueryNext, IsStartKept, IsAuction}
+use Rattle.auction_core.proofs.CertifiedBy.{refutation-settles}
+use Rattle.auction_core.specs.Backed.{IsSettledBy, IsStartShown, IsStepShown, after_steps, AreShown, after_start}
+use Rattle.auction_core.specs.Rule.{Answers, IsValidOf, SettlesQuery, AreValid, AreNoted, IsQueryNext, IsStartKept, IsAuction}
 use Rattle.auction_core.specs.ClockProgress.{IsClockProgress}
 use Rattle.auction_core.proofs.Kept.{IsAtStart, IsUnderWay, Stands, IsKept, in-case, match-true, match-false}
 use Rattle.auction_core.proofs.Cases.{take-cases, with_noted, all_spent, noted_as}
@@ -267,7 +268,7 @@ take-keeps sc book state p a h =
       turned = λ reply t. h;
       rejected = λ place t f. h;
       fit = λ delta t f e. answered-keeps sc book state (Fits delta) a h (not-ended sc state p.worker p.number t).0 (fit-settles sc book state p.worker delta (answers sc book state p (Fit delta) t f e));
-      refuted = λ how t f e. answered-keeps sc book state (Refuted p.worker how) a h (not-ended sc state p.worker p.number t).0 (answers sc book state p (Refutes' how) t f e);
+      refuted = λ how t f e. answered-keeps sc book state (Refuted p.worker how) a h (not-ended sc state p.worker p.number t).0 (refutation-settles sc book state p.worker how (answers sc book state p (Refutes' how) t f e));
       already = λ receipt t f e n. h;
       last = λ receipt t f e n k. answered-keeps sc book state (Undecided (all_spent state (noted_as p.worker receipt))) a h (not-ended sc state p.worker p.number t).0
           (noted-last sc book state (noted_as p.worker receipt) h.noted ((not-ended sc state p.worker p.number t).1, answers sc book state p (Spent receipt) t f e) n k);

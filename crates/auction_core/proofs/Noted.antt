@@ -14,8 +14,9 @@ use Rattle.cert_types.specs.declared.answer.Answer.TheVariants.{Spent}
 use Rattle.auction_core.specs.declared.record.Shown.TheVariants.{Undecided}
 use Rattle.auction_core.specs.State.{CoreState, NotedSpent, task_of}
 use Rattle.auction_core.specs.Take.{is_noted, noted_with}
-use Rattle.auction_core.specs.Backed.{IsValidOf, AreReceipts, IsSettledBy}
-use Rattle.auction_core.specs.Rule.{Answers, AreValid, AreNoted}
+use Rattle.auction_core.proofs.CertifiedBy.{receipt-means}
+use Rattle.auction_core.specs.Backed.{AreReceipts, IsSettledBy}
+use Rattle.auction_core.specs.Rule.{Answers, IsValidOf, AreValid, AreNoted}
 use Rattle.auction_core.proofs.Overlay.{ascending-cons}
 use Rattle.auction_core.proofs.Cases.{with_noted, all_spent}
 
@@ -135,7 +136,7 @@ all-receipts sc book state task lo (w ∷ ws) (n ∷ ns) e d k a f v =
     let place = at-place sc.workers lo w ws d in
     let next : lo + 1 ≡ suc lo = omega arith in
     let valid : IsValidOf sc book task n.worker (Spent n.receipt) = subst (λ o. MatchOption o ⊥ (λ task. IsValidOf sc book task n.worker (Spent n.receipt))) e v.0.1 in (
-      valid-for sc book task lo w n.receipt place.0 (subst (λ i. IsValidOf sc book task i (Spent n.receipt)) same valid),
+      receipt-means book task w n.receipt (valid-for sc book task lo w n.receipt place.0 (subst (λ i. IsValidOf sc book task i (Spent n.receipt)) same valid)),
       all-receipts sc book state task (lo + 1) ws ns e (ap (λ (i : ℕ). drop i sc.workers) next ∙ place.1) k' (ascending-rest n.worker (workers_of ns) a) (λ z h. subst (λ w. w + 1 ≤ z) same (above z h)) v.1,
     )
 

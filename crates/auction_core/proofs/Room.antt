@@ -18,20 +18,19 @@ use Rattle.pack_defs.proofs.ComponentLaws.{component-start, test_by_component}
 use Rattle.pack_defs.proofs.FitsLaws.{fits-from, fits-gives}
 use Rattle.cert_types.proofs.Outsiders.{outside-refutes}
 use Rattle.cert_types.specs.declared.task.Task.{Task}
-use Rattle.cert_types.specs.declared.answer.Answer.TheVariants.{Refuted as Refutes'}
 use Rattle.cert_types.specs.declared.answer.Refutation.{Refutation}
 use Rattle.pack_defs.specs.declared.worker.Worker.{Worker}
 use Rattle.pack_defs.proofs.Chains.{ascending-filter}
 use Rattle.pack_defs.proofs.MapLemmas.{overlaid-ascending}
 use Rattle.cert_types.specs.Refutes.{Refutes, ByStation}
-use Rattle.cert_types.specs.Valid.{IsValid}
 use Rattle.assign_check.specs.Fault.{IsCleanOn}
 use Rattle.cert_types.proofs.Refuting.{refuted-unfit}
 use Rattle.cert_types.proofs.Validity.{valid-refutes}
 use Rattle.auction_core.specs.declared.record.Shown.{Shown}
 use Rattle.auction_core.specs.declared.record.Shown.TheVariants.{Empty, Fits, Same, NoChannel, Refuted, Outside, Undecided}
 use Rattle.auction_core.specs.State.{CoreState, restricted, test_task, shows_room, delta_of, settled, settled_unasked}
-use Rattle.auction_core.specs.Backed.{is_undecided, IsValidOf, IsSettledBy, IsStepShown}
+use Rattle.auction_core.proofs.CertifiedBy.{means-refutation}
+use Rattle.auction_core.specs.Backed.{is_undecided, IsRefutedBy, IsSettledBy, IsStepShown}
 use Rattle.auction_core.specs.Rule.{IsAuction}
 use Rattle.auction_core.specs.ClockProgress.{FitsStayClean}
 use Rattle.auction_core.proofs.Merged.{restricted-ascending, IsTest, merged-clean, merged-stations}
@@ -109,11 +108,11 @@ refuted-room sc book state s r x =
     by-component sc book state s r ∙
     false_from_ne_true (fits book set) (λ yes. refuted-unfit book set r.auction.in_order x (fits-gives book set yes))
 
-pub by-worker : (sc : Scenario) (book : BookView) (task : Task) (w : ℕ) (how : Refutation) → IsValidOf sc book task w (Refutes' how) → Refutes book task.set
+pub by-worker : (sc : Scenario) (book : BookView) (task : Task) (w : ℕ) (how : Refutation) → IsSettledBy sc book task (Refuted w how) → Refutes book task.set
 by-worker sc book task w how e =
-    let go : (o : Option Worker) → MatchOption o ⊥ (λ worker. IsValid book task worker (Refutes' how)) → Refutes book task.set = λ o. elim o as (λ o. MatchOption o ⊥ (λ worker. IsValid book task worker (Refutes' how)) → Refutes book task.set) [
+    let go : (o : Option Worker) → MatchOption o ⊥ (λ worker. IsRefutedBy book task worker how) → Refutes book task.set = λ o. elim o as (λ o. MatchOption o ⊥ (λ worker. IsRefutedBy book task worker how) → Refutes book task.set) [
       | None ↦ λ f. absurd f
-      | Some worker ↦ λ f. valid-refutes book task worker how f
+      | Some worker ↦ λ f. valid-refutes book task worker how (means-refutation book task worker how f)
     ] in
     go (slice_get sc.workers w) e
 

@@ -26,7 +26,8 @@ use Rattle.cert_types.proofs.Meaning.{unless-from}
 use Rattle.auction_core.specs.declared.record.Shown.{Shown}
 use Rattle.auction_core.specs.declared.record.Shown.TheVariants.{Empty, Fits, Same, NoChannel, Refuted, Outside, Undecided}
 use Rattle.auction_core.specs.State.{CoreState, settled_unasked, test_of, test_task}
-use Rattle.auction_core.specs.Backed.{AreReceipts, IsSettledBy, IsStepShown}
+use Rattle.auction_core.specs.Backed.{AreReceipts, IsRefutedBy, IsSettledBy, IsSpentBy, IsStepShown}
+use Rattle.auction_core.proofs.CertifiedBy.{means-receipt, means-refutation, receipt-means, refutation-means}
 use Rattle.auction_core.proofs.Sets.{unasked-cases}
 use Rattle.auction_core.specs.declared.transcript.TranscriptStep.{TranscriptStep}
 use Rattle.auction_core.specs.LogNumbers.{clauses_in, first_number, first_of, firsts_of}
@@ -63,13 +64,13 @@ numbered-parts : (b : Bool) (o : Option Place) → (if b then o else or_first_li
 numbered-parts true o e = (refl, e)
 numbered-parts false o e = absurd (some-line o e)
 
-receipt-shown : (book : BookView) (task : Task) (w : Worker) (x : Receipt) (n : ℕ) → receipt_fault book task w x n ≡ None → IsValid book task w (Spent x) × (n ≡ first_of (clauses_in book task.set) x)
+receipt-shown : (book : BookView) (task : Task) (w : Worker) (x : Receipt) (n : ℕ) → receipt_fault book task w x n ≡ None → IsSpentBy book task w x × (n ≡ first_of (clauses_in book task.set) x)
 receipt-shown book task w x n e =
     let parts = numbered-parts (n == first_of (clauses_in book task.set) x) (answer_fault book task w (Spent x)) e in
-    (parts.1, eqb-true n (first_of (clauses_in book task.set) x) parts.0)
+    (receipt-means book task w x parts.1, eqb-true n (first_of (clauses_in book task.set) x) parts.0)
 
-receipt-none : (book : BookView) (task : Task) (w : Worker) (x : Receipt) (n : ℕ) → IsValid book task w (Spent x) → n ≡ first_of (clauses_in book task.set) x → receipt_fault book task w x n ≡ None
-receipt-none book task w x n valid first = rw (eq-eqb n (first_of (clauses_in book task.set) x) first) valid
+receipt-none : (book : BookView) (task : Task) (w : Worker) (x : Receipt) (n : ℕ) → IsSpentBy book task w x → n ≡ first_of (clauses_in book task.set) x → receipt_fault book task w x n ≡ None
+receipt-none book task w x n valid first = rw (eq-eqb n (first_of (clauses_in book task.set) x) first) (means-receipt book task w x valid)
 
 less : (m n : ℕ) → suc m ≡ suc n → m ≡ n
 less m n e = omega (arith, e)
@@ -103,13 +104,13 @@ receipts-count book task (w ∷ ws) (x ∷ xs) h = let rest = receipts-count boo
 
 -- ---- what settles a query
 
-refuted-shown : (book : BookView) (task : Task) (o : Option Worker) (how : Refutation) → refuted_fault book task o how ≡ None → MatchOption o ⊥ (λ worker. IsValid book task worker (Refutes how))
+refuted-shown : (book : BookView) (task : Task) (o : Option Worker) (how : Refutation) → refuted_fault book task o how ≡ None → MatchOption o ⊥ (λ worker. IsRefutedBy book task worker how)
 refuted-shown book task None how e = absurd (absurd-place Kind e)
-refuted-shown book task (Some worker) how e = e
+refuted-shown book task (Some worker) how e = refutation-means book task worker how e
 
-refuted-none : (book : BookView) (task : Task) (o : Option Worker) (how : Refutation) → MatchOption o ⊥ (λ worker. IsValid book task worker (Refutes how)) → refuted_fault book task o how ≡ None
+refuted-none : (book : BookView) (task : Task) (o : Option Worker) (how : Refutation) → MatchOption o ⊥ (λ worker. IsRefutedBy book task worker how) → refuted_fault book task o how ≡ None
 refuted-none book task None how h = absurd h
-refuted-none book task (Some worker) how h = h
+refuted-none book task (Some worker) how h = means-refutation book task worker how h
 
 outside-shown : (book : BookView) (task : Task) (proof : OutsideProof) (firsts : List ℕ) → one_log_fault book task proof.log.lines firsts ≡ None
     → IsOutsideProof book task.set proof × (firsts ≡ first_number (clauses_in book task.set) proof.log.lines ∷ [])

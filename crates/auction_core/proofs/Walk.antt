@@ -12,16 +12,16 @@ use Rattle.pack_defs.specs.ClockRule.{ClockState, ClockTest, clock_tests, openin
 use Rattle.pack_defs.proofs.ClockSteps.{test_idle}
 use Rattle.pack_defs.proofs.TestOrder.{in_turn, no_test_twice, answered_in_turn, undecided_in_turn, asked_in_turn, asked_same_undecided, same_undecided}
 use Rattle.cert_types.specs.declared.task.Task.{Task}
-use Rattle.cert_types.specs.declared.answer.Answer.{Answer}
 use Rattle.cert_types.specs.declared.answer.Answer.TheVariants.{Refuted as Refutes', Spent}
+use Rattle.cert_types.specs.declared.answer.Refutation.{Refutation}
 use Rattle.cert_types.specs.declared.answer.Receipt.{Receipt}
 use Rattle.pack_defs.specs.declared.worker.Worker.{Worker}
-use Rattle.cert_types.specs.Valid.{IsValid}
 use Rattle.auction_core.specs.declared.record.Shown.{Shown}
 use Rattle.auction_core.specs.declared.record.Shown.TheVariants.{Empty, Fits, Same, NoChannel, Refuted, Outside, Undecided}
 use Rattle.auction_core.specs.declared.record.Step.{Step}
 use Rattle.auction_core.specs.State.{CoreState, test_of, restricted, tested_set, test_task, shows_room, delta_of, settled, settled_unasked, advance_to_query}
-use Rattle.auction_core.specs.Backed.{is_undecided, undecided_of, IsValidOf, AreReceipts, IsSettledBy, IsStepShown, after_steps, after_start}
+use Rattle.auction_core.proofs.CertifiedBy.{means-receipt, means-refutation, receipt-means, refutation-means}
+use Rattle.auction_core.specs.Backed.{is_undecided, undecided_of, AreReceipts, IsRefutedBy, IsSettledBy, IsStepShown, after_steps, after_start}
 use Rattle.auction_core.specs.Rule.{IsAuction}
 use Rattle.auction_core.specs.ClockProgress.{IsClockProgress}
 use Rattle.auction_core.proofs.Kept.{IsUnderWay}
@@ -32,11 +32,11 @@ use Rattle.auction_core.proofs.Room.{IsReady, IsOf, room, new-map}
 
 -- ---- the number of a query does not matter
 
-valid-number : (sc : Scenario) (book : BookView) (task : Task) (n w : ℕ) (answer : Answer) → IsValidOf sc book task w answer → IsValidOf sc book (record task { number = n }) w answer
-valid-number sc book task n w answer h =
-    let go : (o : Option Worker) → MatchOption o ⊥ (λ worker. IsValid book task worker answer) → MatchOption o ⊥ (λ worker. IsValid book (record task { number = n }) worker answer) = λ o. elim o as (λ o. MatchOption o ⊥ (λ worker. IsValid book task worker answer) → MatchOption o ⊥ (λ worker. IsValid book (record task { number = n }) worker answer)) [
+refuted-number : (sc : Scenario) (book : BookView) (task : Task) (n w : ℕ) (how : Refutation) → IsSettledBy sc book task (Refuted w how) → IsSettledBy sc book (record task { number = n }) (Refuted w how)
+refuted-number sc book task n w how h =
+    let go : (o : Option Worker) → MatchOption o ⊥ (λ worker. IsRefutedBy book task worker how) → MatchOption o ⊥ (λ worker. IsRefutedBy book (record task { number = n }) worker how) = λ o. elim o as (λ o. MatchOption o ⊥ (λ worker. IsRefutedBy book task worker how) → MatchOption o ⊥ (λ worker. IsRefutedBy book (record task { number = n }) worker how)) [
       | None ↦ λ v. v
-      | Some worker ↦ λ v. answer-number book task n worker answer ∙ v
+      | Some worker ↦ λ v. refutation-means book (record task { number = n }) worker how (answer-number book task n worker (Refutes' how) ∙ means-refutation book task worker how v)
     ] in
     go (slice_get sc.workers w) h
 
@@ -44,14 +44,14 @@ receipts-number : (book : BookView) (task : Task) (n : ℕ) (ws : List Worker) (
 receipts-number book task n [] [] h = h
 receipts-number book task n [] (x ∷ xs) h = h
 receipts-number book task n (w ∷ ws) [] h = h
-receipts-number book task n (w ∷ ws) (x ∷ xs) h = (answer-number book task n w (Spent x) ∙ h.0, receipts-number book task n ws xs h.1)
+receipts-number book task n (w ∷ ws) (x ∷ xs) h = (receipt-means book (record task { number = n }) w x (answer-number book task n w (Spent x) ∙ means-receipt book task w x h.0), receipts-number book task n ws xs h.1)
 
 pub shown-number : (sc : Scenario) (book : BookView) (task : Task) (n : ℕ) (shown : Shown) → IsSettledBy sc book task shown → IsSettledBy sc book (record task { number = n }) shown
 shown-number sc book task n Empty h = h
 shown-number sc book task n (Fits delta) h = h
 shown-number sc book task n Same h = h
 shown-number sc book task n (NoChannel s) h = h
-shown-number sc book task n (Refuted w how) h = valid-number sc book task n w (Refutes' how) h
+shown-number sc book task n (Refuted w how) h = refuted-number sc book task n w how h
 shown-number sc book task n (Outside proof) h = h
 shown-number sc book task n (Undecided xs) h = receipts-number book task n sc.workers xs h
 

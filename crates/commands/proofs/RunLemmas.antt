@@ -1,6 +1,6 @@
 -- The promises of `run` for a finished auction.
 use Rattle.std.proofs.Common.{◌≡◌, ◌≢◌, ◌⊎◌, ◌≤◌, ◌∙◌, ℕ, true, false, inl, inr, List, [], ◌∷◌, length, refl, sym, ap, subst, arith, Option, Some, None}
-use Rattle.std.specs.Prelude.{Ok, IsSome, IsTrue, MatchOption, is_some, ⊤}
+use Rattle.std.specs.Prelude.{Result, Ok, IsSome, IsTrue, MatchOption, is_some, ⊤}
 use Rattle.std.proofs.lemmas.Bool.{true≢false}
 use Rattle.pack_defs.specs.Lists.{is_in}
 use Rattle.pack_defs.specs.declared.order.Order.{Order}
@@ -17,6 +17,7 @@ use Rattle.result_text.specs.ChannelsText.{channels_text}
 use Rattle.transcript_text.specs.RoundTrip.{IsHeld}
 use Rattle.transcript_text.specs.Spelling.{transcript_text}
 use Rattle.commands.specs.declared.inputs.Inputs.{Inputs}
+use Rattle.commands.specs.declared.inputs.input_file.Stop.{Stop}
 use Rattle.commands.specs.Delivery.{AllOthersUnchanged, AreStored, NamedText, named}
 use Rattle.commands.specs.Ends.{AreInputsOf, RunEnds, auction_texts}
 use Rattle.commands.specs.Ends.Concludes.{Unfit, StartOpen, Delivered}
@@ -27,7 +28,8 @@ use Rattle.commands.specs.Promises.{IsSomeRecord}
 use Rattle.commands.specs.RunPromises.{IsDecided, IsRunDone, IsPartStored, IsRecordAt, IsUnstored, IsUnwritten}
 use Rattle.commands.specs.Records.{IsRecordIn, done_status, outcome, result_of, summary_in}
 use Rattle.commands.specs.Messages.{unwritten_line}
-use Rattle.commands.specs.Verified.{CanBeNamed}
+use Rattle.commands.specs.Verifiable.{IsVerifiable}
+use Rattle.commands.specs.Verified.{CanBeNamed, verified}
 use Rattle.command_words.specs.Words.{RunNames, output_names}
 use Rattle.commands.proofs.DeliveryLemmas.{AreApart, Ended, IsPart, ended-of, for-told, others-up-to}
 use Rattle.commands.proofs.DeliveryLemmas.Ended.{Both, NotSaid, NotStored, OutOfRoom}
@@ -185,11 +187,33 @@ module _ (order : Order) (names : RunNames) (before after : Outside) (status : �
         stored = all files modelled (apart c once);
         summary = writes;
         status_is = is;
-        verifiable = record-verified files names.inputs c.inputs c.rec (c.held files modelled) c.named (in-own-order order c.inputs c.rec c.auction) of.ending c.kept;
       }
       go (NotSaid four all rises less said) = absurd (off (0 ∷ 1 ∷ []) status 4 h four refl)
       go (NotStored x among four part rises unsteady said) = absurd (off (0 ∷ 1 ∷ []) status 4 h four refl)
       go (OutOfRoom x eight part said) = absurd (off (0 ∷ 1 ∷ []) status 8 h eight refl)
+
+  -- ---- the transcript
+
+  same-some : (one other : Record) → Some one ≡ Some other → one ≡ other
+  same-some one other e = cc e
+
+  same-inputs : (one other : Inputs) (read : Result Inputs Stop) → read ≡ Ok one → read ≡ Ok other → one ≡ other
+  same-inputs one other read e f = cc (sym e ∙ f)
+
+  -- The transcript of a completed record verifies.
+  run-verified : RunEnds order names before after status found → (files : List StoredFile) (inputs : Inputs) (rec : Record) → before.files ≡ Some files → inputs_of files names.inputs ≡ Ok inputs →
+      found ≡ Some rec → rec.ending ≡ Done → verified inputs (transcript_text inputs.scenario inputs.book rec) ≡ Ok rec
+  run-verified (RunStopped halted none) files inputs rec modelled accepted is done = absurd (none-some rec is none)
+  run-verified (RunOutOfMemory out) files inputs rec modelled accepted is done = absurd (none-some rec is out.found_is)
+  run-verified (Concluded inputs' rec' are (Unfit of six kept said same)) files inputs rec modelled accepted is done = absurd (cc (sym of.ending ∙ (ap (λ r. r.ending) (same-some rec' rec (sym kept ∙ is)) ∙ done)))
+  run-verified (Concluded inputs' rec' are (StartOpen of seven kept said same)) files inputs rec modelled accepted is done = absurd (cc (sym of.ending ∙ (ap (λ r. r.ending) (same-some rec' rec (sym kept ∙ is)) ∙ done)))
+  run-verified (Concluded inputs' rec' are (Delivered of can kept is' d)) files inputs rec modelled accepted is done =
+      subst (λ r. verified inputs (transcript_text inputs.scenario inputs.book r) ≡ Ok r) (same-some rec' rec (sym is' ∙ is))
+      (subst (λ i. verified i (transcript_text i.scenario i.book rec') ≡ Ok rec') (same-inputs inputs' inputs (inputs_of files names.inputs) (are files modelled) accepted)
+      (record-verified files names.inputs inputs' rec' (are files modelled) can (in-own-order order inputs' rec' of) of.ending kept))
+
+  pub run-verifiable : RunEnds order names before after status found → IsVerifiable names.inputs before found
+  run-verifiable end = record { verifiable = run-verified end }
 
   pub run-decided : (files : List StoredFile) → RunEnds order names before after status found → IsOnce names found → before.files ≡ Some files → status ≡ 0 → IsDecided order files names before after
   run-decided files end once modelled zero =
@@ -226,7 +250,6 @@ module _ (order : Order) (names : RunNames) (before after : Outside) (status : �
         failed = rises;
         unsure = less;
         summary = said;
-        verifiable = record-verified files names.inputs c.inputs c.rec (c.held files modelled) c.named (in-own-order order c.inputs c.rec c.auction) of.ending c.kept;
       })
       go (NotStored x among is part rises unsteady said) = inl (unstored files c modelled x (part files modelled (apart c once)) rises unsteady said)
       go (OutOfRoom x eight part said) = absurd (omega arith)

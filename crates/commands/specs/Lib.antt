@@ -28,6 +28,7 @@ pub mod Settling
 pub mod ShowPromises
 pub mod Statuses
 pub mod Shown
+pub mod Verifiable
 pub mod Verified
 pub mod VerifyPromises
 pub mod ViewPromises

@@ -13,7 +13,6 @@ use Rattle.auction_core.specs.declared.record.Ending.{Ending}
 use Rattle.auction_core.specs.declared.record.Ending.TheVariants.{Done, StartRefuted, StartUndecided}
 use Rattle.auction_core.specs.declared.record.Record.{Record}
 use Rattle.auction_core.specs.Backed.{undecided_of}
-use Rattle.transcript_text.specs.Spelling.{transcript_text}
 use Rattle.commands.specs.Delivery.{AllOthersUnchanged, AreStored, AreStoredUpTo}
 use Rattle.commands.specs.Ends.{AreInputsOf, auction_texts, IsStatusOr}
 use Rattle.commands.specs.Inputs.{inputs_of}
@@ -23,11 +22,9 @@ use Rattle.commands.specs.Promises.{KeepsRecord, ReadsInputs, TellsFailures}
 use Rattle.commands.specs.Records.{IsEndedRecordIn, IsOpenRecordIn, IsRecordIn, StartFits, StartUnfit, done_status, outcome, result_of, summary_in}
 use Rattle.commands.specs.Messages.{open_line, unfit_line, unwritten_line}
 use Rattle.commands.specs.Statuses.{DONE, LEFT_OPEN, UNREAD, UNWRITTEN, REFUSED, START_UNFIT, START_OPEN, NO_MEMORY}
-use Rattle.commands.specs.Verified.{verified}
 use Rattle.command_words.specs.Words.{RunNames, output_names}
 
--- The auction of these inputs was completed, and RESULT, CHANNELS and TRANSCRIPT hold the texts of its record. Verifying the
--- transcript beside the same inputs returns the record.
+-- The auction of these inputs was completed, and RESULT, CHANNELS and TRANSCRIPT hold the texts of its record.
 pub record IsRunDone (order : Order) (files : List StoredFile) (names : RunNames) (before after : Outside) (status : ℕ) (found : Option Record) : Type 0 where
   pub inputs : Inputs
   pub accepted : inputs_of files names.inputs ≡ Ok inputs
@@ -40,7 +37,6 @@ pub record IsRunDone (order : Order) (files : List StoredFile) (names : RunNames
   -- The sink grew by the summary. The status is 0 exactly if no test is undecided.
   pub summary : Writes before.held after.held (summary_in order inputs (undecided_of rec.steps)) (Ok tt)
   pub status_is : status ≡ done_status (undecided_of rec.steps)
-  pub verifiable : verified inputs (transcript_text inputs.scenario inputs.book rec) ≡ Ok rec
 
 -- RESULT and the summary are the clock rule's with every test decided: they depend on the input files and the test order alone.
 -- If no owners' file is named, each bought station is paid its threshold price, the greatest admissible value with which it would
@@ -74,8 +70,7 @@ pub record IsUnstored (order : Order) (files : List StoredFile) (names : RunName
   pub line : IsLinePrinted before after (unwritten_line upto.part.failed.name)
 
 -- The auction of these inputs was completed and its three texts are stored, but the sink failed at the summary. The sink did not
--- guarantee room for the whole summary; it grew by the summary or by some of it, from the first byte on. Verifying the transcript
--- beside the same inputs returns the record.
+-- guarantee room for the whole summary; it grew by the summary or by some of it, from the first byte on.
 pub record IsCutShort (order : Order) (files : List StoredFile) (names : RunNames) (before after : Outside) (found : Option Record) : Type 0 where
   pub inputs : Inputs
   pub accepted : inputs_of files names.inputs ≡ Ok inputs
@@ -86,7 +81,6 @@ pub record IsCutShort (order : Order) (files : List StoredFile) (names : RunName
   pub failed : HasRisen before.sink_faults after.sink_faults
   pub unsure : before.sure < length (summary_in order inputs (undecided_of rec.steps))
   pub summary : IsLinePrinted before after (summary_in order inputs (undecided_of rec.steps))
-  pub verifiable : verified inputs (transcript_text inputs.scenario inputs.book rec) ≡ Ok rec
 
 -- A store failed, or the sink failed at the summary.
 abbrev pub IsUnwritten : Order → List StoredFile → RunNames → Outside → Outside → Option Record → Type 0

@@ -23,9 +23,8 @@ use Rattle.auction_core.specs.declared.posting.Said.TheVariants.{Good}
 use Rattle.auction_core.specs.declared.record.Shown.{Shown}
 use Rattle.auction_core.specs.declared.record.Shown.TheVariants.{Fits, Refuted, Undecided}
 use Rattle.auction_core.specs.Auction.{AuctionView, entry_with_reply, accepted_answer}
-use Rattle.auction_core.specs.Backed.{IsValidOf}
 use Rattle.auction_core.specs.Replay.{EntryView, entry_of, kept_answer}
-use Rattle.auction_core.specs.Rule.{Answers, AreNoted, KeepsTheRule}
+use Rattle.auction_core.specs.Rule.{Answers, AreNoted, IsValidOf, KeepsTheRule}
 use Rattle.auction_core.specs.Said.{taken}
 use Rattle.auction_core.specs.State.{CoreState, NotedSpent, answered, has_ended, task_of}
 use Rattle.auction_core.specs.Take.{accepted, advanced, is_noted, noted_with, spent, unjudged_reply}

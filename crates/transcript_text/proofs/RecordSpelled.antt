@@ -21,7 +21,6 @@ use Rattle.assign_check.proofs.Overlays.{change-stands}
 use Rattle.cnf_encode.specs.Formula.{packing_formula, variables_in}
 use Rattle.rup_check.specs.declared.line.Line.{Line}
 use Rattle.rup_check.specs.Follows.{Follows, lines_fault}
-use Rattle.cert_types.specs.declared.answer.Answer.TheVariants.{Spent, Refuted as Refutes}
 use Rattle.cert_types.specs.declared.answer.Receipt.{Receipt}
 use Rattle.cert_types.specs.declared.answer.Receipt.TheVariants.{Lines, Moves}
 use Rattle.cert_types.specs.declared.answer.Refutation.{Refutation}
@@ -30,13 +29,11 @@ use Rattle.cert_types.specs.declared.outside.OutsideProof.{OutsideProof}
 use Rattle.cert_types.specs.declared.task.Task.{Task}
 use Rattle.cert_types.specs.Outside.{IsOutsideProof}
 use Rattle.cert_types.specs.Spent.{AreSpentLines}
-use Rattle.cert_types.specs.Valid.{IsValid}
 use Rattle.cert_types.specs.Moves.{AreSpentMoves, start_map}
-use Rattle.cert_types.proofs.Meaning.{dead-means, lines-means, moves-means, proof-means}
 use Rattle.cert_types.proofs.WalkLemmas.{troubled-there}
 use Rattle.auction_core.specs.declared.record.Shown.{Shown}
 use Rattle.auction_core.specs.declared.record.Shown.TheVariants.{Empty, Fits, Same, NoChannel, Refuted, Outside, Undecided}
-use Rattle.auction_core.specs.Backed.{AreReceipts, IsSettledBy}
+use Rattle.auction_core.specs.Backed.{AreReceipts, IsRefutedBy, IsSettledBy, IsSpentBy}
 use Rattle.lrat_text.specs.Write.{AreSpelled, IsBefore}
 use Rattle.lrat_text.proofs.Named.{follows-spelled}
 use Rattle.transcript_text.specs.Fields.{greatest_u32, is_above, most_counted}
@@ -160,15 +157,13 @@ dead-channel book s c h = go (domain_of book s) h
     go (x ∷ []) e = or_left (x == c) false e
     go (x ∷ y ∷ xs) e = absurd cc
 
-refutation-spelled : (sc : Scenario) (book : BookView) (task : Task) (worker : Worker) (how : Refutation) → IsWithinLimits sc → IsNamed sc book → IsKnown sc task.set → worker.budget ≤ most_counted → IsValid book task worker (Refutes how) → IsRefutation sc book how
-refutation-spelled sc book task worker (Proof subset log) l n k most v =
-    let p = proof-means book task worker subset log v in
+refutation-spelled : (sc : Scenario) (book : BookView) (task : Task) (worker : Worker) (how : Refutation) → IsWithinLimits sc → IsNamed sc book → IsKnown sc task.set → worker.budget ≤ most_counted → IsRefutedBy book task worker how → IsRefutation sc book how
+refutation-spelled sc book task worker (Proof subset log) l n k most p =
     let few : length log.lines ≤ most_counted = omega (arith, p.within_budget, most) in
     let parts = and_parts (is_ascending subset) (list_all (is_in task.set) subset) p.of_subset in
     let known : (z : ℕ) → is_in subset z ≡ true → is_in (facilities sc) z ≡ true = λ z m. k.known z (list_all-at (is_in task.set) subset z parts.1 m) in
     (few, stations-from sc None subset parts.0 (λ z m. station-of sc book z n (known z m)) (above-none subset), follows-lines sc book subset log.lines l n (record { rises = parts.0; known = known }) p.follows few)
-refutation-spelled sc book task worker (Dead p) l n k most v =
-    let dead = dead-means book task worker p v in
+refutation-spelled sc book task worker (Dead p) l n k most dead =
     let parts = and_parts _ _ (and_parts _ _ dead).1 in
     let both = and_parts (is_in task.set p.f) (is_in task.set p.g) parts.0 in
     let only = and_parts (is_only (domain_of book p.f) p.a) (is_only (domain_of book p.g) p.b) parts.1 in (
@@ -218,17 +213,12 @@ start-known book last (s ∷ set) z m = elim (or_cases (s == z) (has_station (st
   | inr there ↦ or_right (s == z) (is_in set z) (start-known book last set z there)
 ]
 
-receipt-spelled : (sc : Scenario) (book : BookView) (task : Task) (worker : Worker) (x : Receipt) → IsWithinLimits sc → IsNamed sc book → IsKnown sc task.set → worker.budget ≤ most_counted → IsValid book task worker (Spent x) → IsReceipt sc x (first_of (clauses_in book task.set) x)
-receipt-spelled sc book task worker (Lines log) l n k most v =
-    let p = lines-means book task worker log v in
+receipt-spelled : (sc : Scenario) (book : BookView) (task : Task) (worker : Worker) (x : Receipt) → IsWithinLimits sc → IsNamed sc book → IsKnown sc task.set → worker.budget ≤ most_counted → IsSpentBy book task worker x → IsReceipt sc x (first_of (clauses_in book task.set) x)
+receipt-spelled sc book task worker (Lines log) l n k most p =
     let few : length log.lines ≤ most_counted = omega (arith, p.whole_budget, most) in
     (few, follows-log sc book task.set log.lines l n k (spent-follows (variables_in book task.set) (packing_formula book task.set) 1 log.lines p.spent) few)
-receipt-spelled sc book task worker (Moves moves) l n k most v =
-    let p = moves-means book task worker moves v in (
-      omega (arith, p.whole_budget, most),
-      moves-spelled sc book (start_map book task.last task.set) moves n (λ z m. k.known z (start-known book task.last task.set z m)) p.spent,
-      refl,
-    )
+receipt-spelled sc book task worker (Moves moves) l n k most p =
+    (omega (arith, p.whole_budget, most), moves-spelled sc book (start_map book task.last task.set) moves n (λ z m. k.known z (start-known book task.last task.set z m)) p.spent, refl)
 
 receipts-spelled : (sc : Scenario) (book : BookView) (task : Task) (ws : List Worker) (xs : List Receipt) → IsWithinLimits sc → IsNamed sc book → IsKnown sc task.set → All IsWorkerWithinLimits ws → AreReceipts book task ws xs
     → (length xs ≡ length ws) × AreReceiptsSpelled sc xs (map (first_of (clauses_in book task.set)) xs)
@@ -254,8 +244,8 @@ settled-spelled sc book task station (Fits delta) l n k a h =
 settled-spelled sc book task station Same l n k a h = absurd h
 settled-spelled sc book task station (NoChannel s) l n k a h = absurd h
 settled-spelled sc book task station (Refuted w how) l n k a h =
-    let worker = of-worker sc.workers w (λ worker. IsValid book task worker (Refutes how)) l.each_worker h in
-    let within = worker-within sc.workers w (λ worker. IsValid book task worker (Refutes how)) h in
+    let worker = of-worker sc.workers w (λ worker. IsRefutedBy book task worker how) l.each_worker h in
+    let within = worker-within sc.workers w (λ worker. IsRefutedBy book task worker how) h in
     ((within, omega (arith, within, l.workers)), refutation-spelled sc book task worker.0 how l n k worker.1 worker.2, refl)
 settled-spelled sc book task station (Outside proof) l n k a h = outside-spelled sc book task.set proof task.station l n k h
 settled-spelled sc book task station (Undecided receipts) l n k a h = receipts-spelled sc book task sc.workers receipts l n k l.each_worker h

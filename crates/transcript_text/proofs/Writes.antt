@@ -12,7 +12,6 @@ use Rattle.pack_defs.specs.declared.scenario.Scenario.{Scenario}
 use Rattle.pack_defs.specs.declared.worker.Kind.{Kind}
 use Rattle.pack_defs.specs.declared.worker.Kind.TheVariants.{Cdcl, Walk}
 use Rattle.pack_defs.specs.declared.worker.Worker.{Worker}
-use Rattle.cert_types.specs.declared.answer.Answer.TheVariants.{Spent, Refuted as Refutes}
 use Rattle.cert_types.specs.declared.answer.Receipt.{Receipt}
 use Rattle.cert_types.specs.declared.answer.Receipt.TheVariants.{Lines, Moves}
 use Rattle.cert_types.specs.declared.answer.Refutation.{Refutation}
@@ -20,13 +19,11 @@ use Rattle.cert_types.specs.declared.answer.Refutation.TheVariants.{Proof, Dead}
 use Rattle.cert_types.specs.declared.outside.OutsideProof.{OutsideProof}
 use Rattle.cert_types.specs.declared.task.Task.{Task}
 use Rattle.cert_types.specs.Outside.{IsOutsideProof}
-use Rattle.cert_types.specs.Valid.{IsValid}
-use Rattle.cert_types.proofs.Meaning.{lines-means, proof-means}
 use Rattle.auction_core.specs.declared.record.Shown.{Shown}
 use Rattle.auction_core.specs.declared.record.Shown.TheVariants.{Empty, Fits, Same, NoChannel, Refuted, Outside, Undecided}
 use Rattle.auction_core.specs.declared.record.Record.{Record}
 use Rattle.auction_core.specs.declared.record.Step.{Step}
-use Rattle.auction_core.specs.Backed.{AreReceipts, AreShown, IsSettledBy, IsStepShown, after_steps}
+use Rattle.auction_core.specs.Backed.{AreReceipts, AreShown, IsRefutedBy, IsSettledBy, IsSpentBy, IsStepShown, after_steps}
 use Rattle.auction_core.specs.State.{CoreState, settled, settled_unasked, shows_room, test_of, test_task}
 use Rattle.auction_core.proofs.Sets.{unasked-cases}
 use Rattle.transcript_text.specs.Fields.{most_counted}
@@ -51,16 +48,14 @@ of-worker [] w P l h = absurd h
 of-worker (x ∷ xs) zero P l h = (x, budget-most x (head-of IsWorkerWithinLimits x xs l), h)
 of-worker (x ∷ xs) (suc w) P l h = of-worker xs w P (All-tail IsWorkerWithinLimits x xs l) h
 
-refutation-writable : (book : BookView) (task : Task) (worker : Worker) (how : Refutation) → worker.budget ≤ most_counted → IsValid book task worker (Refutes how) → IsWritable how
-refutation-writable book task worker (Proof subset log) most v =
-    let p = proof-means book task worker subset log v in
+refutation-writable : (book : BookView) (task : Task) (worker : Worker) (how : Refutation) → worker.budget ≤ most_counted → IsRefutedBy book task worker how → IsWritable how
+refutation-writable book task worker (Proof subset log) most p =
     ((and_parts _ _ p.of_subset).0, omega (arith, p.within_budget, most))
-refutation-writable book task worker (Dead p) most v = tt
+refutation-writable book task worker (Dead p) most dead = tt
 
-receipt-counted : (book : BookView) (task : Task) (worker : Worker) (x : Receipt) → worker.budget ≤ most_counted → IsValid book task worker (Spent x) → lines_in x ≤ most_counted
-receipt-counted book task worker (Lines log) most v =
-    let p = lines-means book task worker log v in omega (arith, p.whole_budget, most)
-receipt-counted book task worker (Moves moves) most v = omega arith
+receipt-counted : (book : BookView) (task : Task) (worker : Worker) (x : Receipt) → worker.budget ≤ most_counted → IsSpentBy book task worker x → lines_in x ≤ most_counted
+receipt-counted book task worker (Lines log) most p = omega (arith, p.whole_budget, most)
+receipt-counted book task worker (Moves moves) most p = omega arith
 
 receipts-counted : (book : BookView) (task : Task) (ws : List Worker) (xs : List Receipt) → All IsWorkerWithinLimits ws → AreReceipts book task ws xs → All (λ x. lines_in x ≤ most_counted) xs
 receipts-counted book task [] [] l h = λ k d below. omega (arith, below)
@@ -81,7 +76,7 @@ settled-writable sc book task (Fits delta) l h = tt
 settled-writable sc book task Same l h = tt
 settled-writable sc book task (NoChannel s) l h = tt
 settled-writable sc book task (Refuted w how) l h =
-    let worker = of-worker sc.workers w (λ worker. IsValid book task worker (Refutes how)) l.each_worker h in
+    let worker = of-worker sc.workers w (λ worker. IsRefutedBy book task worker how) l.each_worker h in
     refutation-writable book task worker.0 how worker.1 worker.2
 settled-writable sc book task (Outside proof) l h = outside-counted book task.set proof task.station h
 settled-writable sc book task (Undecided receipts) l h = receipts-counted book task sc.workers receipts l.each_worker h

@@ -1,4 +1,4 @@
-use Rattle.std.proofs.Common.{◌∙◌, sym, true, get_or, arith}
+use Rattle.std.proofs.Common.{◌∙◌, sym, get_or, arith}
 use Rattle.pack_defs.proofs.Digits.{more-digits, more-value}
 use Rattle.transcript_text.proofs.NumeralLemmas.{digit-most}
 use Rattle.transcript_text.proofs.log_field.digits_at.Goals as goal
