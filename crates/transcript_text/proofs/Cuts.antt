@@ -1,5 +1,5 @@
 -- A text in two parts, the first of which ends with a line end; for the contracts of `pieces`.
-use Rattle.std.proofs.Common.{◌≡◌, ◌<◌, ◌≤◌, ◌-◌, ◌==◌, ◌&&◌, ◌∙◌, ℕ, zero, suc, Bool, true, false, List, [], ◌∷◌, ◌++◌, refl, sym, ap, subst, append_assoc, append-nil, arith, take, drop, length, if◌then◌else◌}
+use Rattle.std.proofs.Common.{◌≡◌, ◌<◌, ◌≤◌, ◌-◌, ◌==◌, ◌∙◌, ℕ, zero, suc, Bool, true, false, List, [], ◌∷◌, ◌++◌, refl, sym, ap, subst, append_assoc, append-nil, arith, take, drop, length, if◌then◌else◌}
 use Rattle.std.proofs.lemmas.List.{drop_all, length-drop, take-append-drop, take_all}
 use Rattle.pack_defs.specs.Lists.{is_empty}
 use Rattle.lrat_text.specs.Lines.{ended_lines, is_whole, prepend_to_first_line}
@@ -12,7 +12,7 @@ onto-append c false [] more some = absurd cc (some refl)
 onto-append c false (line ∷ lines) more some = refl
 
 -- A text that ends with a line end has a line, unless it is empty.
-some-line : (c : ℕ) (text : List ℕ) → is_whole (c ∷ text) ≡ true → is_empty (ended_lines (c ∷ text)) ≡ false
+pub some-line : (c : ℕ) (text : List ℕ) → is_whole (c ∷ text) ≡ true → is_empty (ended_lines (c ∷ text)) ≡ false
 unfolding is_whole ended_lines
 some-line c [] w = rw w refl
 some-line c (d ∷ rest) w = go (c == 10) (ended_lines (d ∷ rest)) (some-line d rest w)

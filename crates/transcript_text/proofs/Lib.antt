@@ -20,8 +20,10 @@ pub mod RecordReads
 pub mod Stays
 pub mod Ahead
 pub mod Cuts
+pub mod CutTexts
 pub mod Fed
 pub mod PrefixSteps
 pub mod PrefixLaws
 pub mod PrefixReadLemmas
+pub mod KeptSteps
 pub mod NumeralLemmas

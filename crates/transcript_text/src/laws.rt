@@ -1,6 +1,6 @@
 //! Laws of a transcript's text, which speak of the definitions alone: worked examples, and the round trip.
 
-ghost use Rattle.std.specs.Prelude.{◌≡◌, ◌≢◌, ◌<◌, ◌^◌, ◌∷◌, ◌++◌, [], ℕ, List, MatchResult, Ok, Err, codes, length, take, true};
+ghost use Rattle.std.specs.Prelude.{◌≡◌, ◌≢◌, ◌<◌, ◌≤◌, ◌^◌, ◌∷◌, ◌++◌, [], ℕ, List, MatchResult, Ok, Err, codes, false, length, take, true};
 ghost use Rattle.auction_core.specs.declared.record.Shown.TheVariants as Shown;
 ghost use Rattle.pack_defs.specs.Scenario.{IsWithinLimits};
 ghost use Rattle.pack_defs.specs.declared.scenario.Scenario.{Scenario};
@@ -13,10 +13,11 @@ ghost use Rattle.pack_defs.specs.declared.order.Order.TheVariants.{ByFacility};
 ghost use Rattle.auction_core.specs.declared.transcript.Transcript.{Transcript};
 ghost use Rattle.transcript_text.specs.Spelled.{IsSpelled};
 ghost use Rattle.pack_defs.specs.Examples.{three_stations};
+ghost use Rattle.transcript_text.specs.declared.error.TextErr.{TextErr};
 ghost use Rattle.transcript_text.specs.declared.error.TextErr.TheVariants.{BadLine, Truncated, Version};
 ghost use Rattle.transcript_text.specs.Examples.{fitted_step, later_text, later_transcript, other_text, other_transcript, three, three_text, three_transcript, two_workers};
 ghost use Rattle.auction_core.specs.declared.prefix.Prefix.{Prefix};
-ghost use Rattle.transcript_text.specs.PrefixReading.{IsPrefixOf, prefix_of, transcript_prefix};
+ghost use Rattle.transcript_text.specs.PrefixReading.{IsPrefixOf, KeepsAllOf, prefix_of, transcript_prefix};
 ghost use Rattle.transcript_text.specs.PrefixSpelling.{prefix_spelling};
 ghost use Rattle.transcript_text.specs.Reading.{transcript_of};
 ghost use Rattle.transcript_text.specs.Spelling.{spelling, transcript_for, transcript_text};
@@ -72,4 +73,23 @@ pub fn prove_no_prefix_rejected()
 /// workers must be counted in 32 bits.
 pub fn prove_text_begins_with_kept()
     ensures { (sc : Scenario) (book : BookView) (text : List ℕ) (kept : Prefix) → length sc.workers < 2 ^ 32 → prefix_of sc book text ≡ Ok kept → take (length (prefix_spelling book kept)) text ≡ prefix_spelling book kept }
+{}
+
+/// A transcript's text has no end but its own: if fewer bytes of it are read, lines are missing, wherever it is cut. So no
+/// transcript's text is the beginning of another's.
+pub fn prove_cut_text_is_truncated()
+    ensures { (sc : Scenario) (book : BookView) (text : List ℕ) (t : Transcript) (n : ℕ) → transcript_of sc book text ≡ Ok t → n < length text → transcript_of sc book (take n text) ≡ Err Truncated }
+{}
+
+/// Any error other than missing lines is final: the text has the same error, whatever bytes follow.
+pub fn prove_error_is_final()
+    ensures { (sc : Scenario) (book : BookView) (before after : List ℕ) (why : TextErr) → transcript_of sc book before ≡ Err why → why ≢ Truncated → transcript_of sc book (before ++ after) ≡ Err why }
+{}
+
+/// A reader of beginnings keeps each step that is complete. A text that begins with the lines of a transcript's order, start
+/// and steps, whatever follows, is read with at least these, unless a later line is invalid. A transcript's text, cut after the
+/// lines of some steps or later, is read with at least these steps.
+pub fn prove_complete_steps_are_kept()
+    ensures all { (sc : Scenario) (book : BookView) (t : Transcript) (after : List ℕ) → IsSpelled sc book t → MatchResult (prefix_of sc book (prefix_spelling book (transcript_prefix t false) ++ after)) (KeepsAllOf t) (λ why. Unit {0}) }
+    ensures cut { (sc : Scenario) (book : BookView) (t : Transcript) (k n : ℕ) → IsSpelled sc book t → k ≤ length t.steps → length (prefix_spelling book (transcript_prefix (record { order = t.order; start = t.start; steps = take k t.steps }) false)) ≤ n → MatchResult (prefix_of sc book (take n (spelling book t))) (λ kept. k ≤ length kept.steps) (λ why. ⊥) }
 {}
