@@ -7,7 +7,11 @@ use Rattle.std.proofs.lemmas.List.{length-take, take-append-drop}
 use Rattle.std.proofs.Math.Seq.{take-append-add}
 use Rattle.pack_defs.specs.declared.scenario.Scenario.{Scenario}
 use Rattle.pack_defs.specs.Book.{BookView}
+use Rattle.pack_defs.specs.Scenario.{IsWithinLimits}
 use Rattle.auction_core.specs.declared.prefix.Prefix.{Prefix}
+use Rattle.auction_core.specs.Backed.{IsBacked}
+use Rattle.auction_core.specs.declared.record.Ending.TheVariants.{Done}
+use Rattle.auction_core.specs.declared.record.Record.{Record}
 use Rattle.auction_core.specs.declared.transcript.Transcript.{Transcript}
 use Rattle.auction_core.specs.declared.transcript.TranscriptStep.{TranscriptStep}
 use Rattle.lrat_text.specs.Lines.{ended_lines}
@@ -17,9 +21,11 @@ use Rattle.transcript_text.specs.PrefixReading.{IsPrefixOf, KeepsAllOf, StepsOfP
 use Rattle.transcript_text.specs.PrefixSpelling.{prefix_spelling}
 use Rattle.transcript_text.specs.Reading.{transcript_of}
 use Rattle.transcript_text.specs.Spelled.{IsSpelled, IsStepSpelled}
-use Rattle.transcript_text.specs.Spelling.{end_text, spelling, start_text, step_text, version_text}
+use Rattle.transcript_text.specs.RoundTrip.{IsHeld, IsNamed}
+use Rattle.transcript_text.specs.Spelling.{end_text, spelling, start_text, step_text, transcript_for, transcript_text, version_text}
 use Rattle.transcript_text.proofs.FieldReads.{lines_at}
 use Rattle.transcript_text.proofs.PrefixLaws.{prefix-first}
+use Rattle.transcript_text.proofs.RecordReads.{record-spelled}
 use Rattle.transcript_text.proofs.TextReads.{shown-read, start-read, test_in, transcript-again, version-again}
 
 -- ---- the steps
@@ -141,3 +147,9 @@ cut-keeps sc book t k n h le long =
     both t k (prefix_of sc book (take n text)) le
     (subst (λ (bytes : List ℕ). Keeps (first k t) (prefix_of sc book bytes)) (sym cut) (all-kept sc book (first k t) (take (n - length front) behind) (first-spelled sc book k t h)))
     (prefix-first sc book (take n text) (drop n text) t (ap (transcript_of sc book) (take-append-drop n text) ∙ transcript-again sc book t h))
+
+-- The same for the transcript of a record.
+pub record-keeps : (sc : Scenario) (book : BookView) (rec : Record) (k n : ℕ) → IsBacked sc book rec.order rec → rec.ending ≡ Done → IsWithinLimits sc → IsNamed sc book → IsHeld rec
+    → k ≤ length (transcript_for sc book rec).steps → length (prefix_spelling book (transcript_prefix (first k (transcript_for sc book rec)) false)) ≤ n
+    → MatchResult (prefix_of sc book (take n (transcript_text sc book rec))) (λ kept. k ≤ length kept.steps) (λ why. ⊥)
+record-keeps sc book rec k n backed done l named held = cut-keeps sc book (transcript_for sc book rec) k n (record-spelled sc book rec backed done l named held)

@@ -92,4 +92,5 @@ pub fn prove_error_is_final()
 pub fn prove_complete_steps_are_kept()
     ensures all { (sc : Scenario) (book : BookView) (t : Transcript) (after : List ℕ) → IsSpelled sc book t → MatchResult (prefix_of sc book (prefix_spelling book (transcript_prefix t false) ++ after)) (KeepsAllOf t) (λ why. Unit {0}) }
     ensures cut { (sc : Scenario) (book : BookView) (t : Transcript) (k n : ℕ) → IsSpelled sc book t → k ≤ length t.steps → length (prefix_spelling book (transcript_prefix (record { order = t.order; start = t.start; steps = take k t.steps }) false)) ≤ n → MatchResult (prefix_of sc book (take n (spelling book t))) (λ kept. k ≤ length kept.steps) (λ why. ⊥) }
+    ensures record { (sc : Scenario) (book : BookView) (rec : Record) (k n : ℕ) → IsBacked sc book rec.order rec → rec.ending ≡ Ending.Done → IsWithinLimits sc → IsNamed sc book → IsHeld rec → let t = transcript_for sc book rec in (k ≤ length t.steps → length (prefix_spelling book (transcript_prefix (record { order = t.order; start = t.start; steps = take k t.steps }) false)) ≤ n → MatchResult (prefix_of sc book (take n (transcript_text sc book rec))) (λ kept. k ≤ length kept.steps) (λ why. ⊥)) }
 {}
