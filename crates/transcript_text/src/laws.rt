@@ -5,6 +5,7 @@ ghost use Rattle.auction_core.specs.declared.record.Shown.TheVariants as Shown;
 ghost use Rattle.pack_defs.specs.Scenario.{IsWithinLimits};
 ghost use Rattle.pack_defs.specs.declared.scenario.Scenario.{Scenario};
 ghost use Rattle.auction_core.specs.Backed.{IsBacked};
+ghost use Rattle.auction_core.specs.NotShown.{first_steps};
 ghost use Rattle.auction_core.specs.declared.record.Record.{Record};
 ghost use Rattle.auction_core.specs.declared.record.Ending.TheVariants as Ending;
 ghost use Rattle.transcript_text.specs.RoundTrip.{IsHeld, IsNamed};
@@ -88,9 +89,9 @@ pub fn prove_error_is_final()
 
 /// A reader of beginnings keeps each step that is complete. A text that begins with the lines of a transcript's order, start
 /// and steps, whatever follows, is read with at least these, unless a later line is invalid. A transcript's text, cut after the
-/// lines of some steps or later, is read with at least these steps.
+/// lines of some steps or later, is read with at least these steps. So is the text of a record's transcript.
 pub fn prove_complete_steps_are_kept()
     ensures all { (sc : Scenario) (book : BookView) (t : Transcript) (after : List ℕ) → IsSpelled sc book t → MatchResult (prefix_of sc book (prefix_spelling book (transcript_prefix t false) ++ after)) (KeepsAllOf t) (λ why. Unit {0}) }
-    ensures cut { (sc : Scenario) (book : BookView) (t : Transcript) (k n : ℕ) → IsSpelled sc book t → k ≤ length t.steps → length (prefix_spelling book (transcript_prefix (record { order = t.order; start = t.start; steps = take k t.steps }) false)) ≤ n → MatchResult (prefix_of sc book (take n (spelling book t))) (λ kept. k ≤ length kept.steps) (λ why. ⊥) }
-    ensures record { (sc : Scenario) (book : BookView) (rec : Record) (k n : ℕ) → IsBacked sc book rec.order rec → rec.ending ≡ Ending.Done → IsWithinLimits sc → IsNamed sc book → IsHeld rec → let t = transcript_for sc book rec in (k ≤ length t.steps → length (prefix_spelling book (transcript_prefix (record { order = t.order; start = t.start; steps = take k t.steps }) false)) ≤ n → MatchResult (prefix_of sc book (take n (transcript_text sc book rec))) (λ kept. k ≤ length kept.steps) (λ why. ⊥)) }
+    ensures cut { (sc : Scenario) (book : BookView) (t : Transcript) (k n : ℕ) → IsSpelled sc book t → k ≤ length t.steps → length (prefix_spelling book (first_steps k t)) ≤ n → MatchResult (prefix_of sc book (take n (spelling book t))) (λ kept. k ≤ length kept.steps) (λ why. ⊥) }
+    ensures record { (sc : Scenario) (book : BookView) (rec : Record) (k n : ℕ) → IsBacked sc book rec.order rec → rec.ending ≡ Ending.Done → IsWithinLimits sc → IsNamed sc book → IsHeld rec → let t = transcript_for sc book rec in (k ≤ length t.steps → length (prefix_spelling book (first_steps k t)) ≤ n → MatchResult (prefix_of sc book (take n (transcript_text sc book rec))) (λ kept. k ≤ length kept.steps) (λ why. ⊥)) }
 {}
