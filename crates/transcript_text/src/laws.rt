@@ -88,10 +88,17 @@ pub fn prove_error_is_final()
 {}
 
 /// A reader of beginnings keeps each step that is complete. A text that begins with the lines of a transcript's order, start
-/// and steps, whatever follows, is read with at least these, unless a later line is invalid. A transcript's text, cut after the
-/// lines of some steps or later, is read with at least these steps. So is the text of a record's transcript.
+/// and steps, whatever follows, is read with at least these, or rejected. A transcript's text, cut after the lines of some steps
+/// or later, is read with at least these steps. So is the text of a record's transcript.
 pub fn prove_complete_steps_are_kept()
     ensures all { (sc : Scenario) (book : BookView) (t : Transcript) (after : List ℕ) → IsSpelled sc book t → MatchResult (prefix_of sc book (prefix_spelling book (transcript_prefix t false) ++ after)) (KeepsAllOf t) (λ why. Unit {0}) }
     ensures cut { (sc : Scenario) (book : BookView) (t : Transcript) (k n : ℕ) → IsSpelled sc book t → k ≤ length t.steps → length (prefix_spelling book (first_steps k t)) ≤ n → MatchResult (prefix_of sc book (take n (spelling book t))) (λ kept. k ≤ length kept.steps) (λ why. ⊥) }
     ensures record { (sc : Scenario) (book : BookView) (rec : Record) (k n : ℕ) → IsBacked sc book rec.order rec → rec.ending ≡ Ending.Done → IsWithinLimits sc → IsNamed sc book → IsHeld rec → let t = transcript_for sc book rec in (k ≤ length t.steps → length (prefix_spelling book (first_steps k t)) ≤ n → MatchResult (prefix_of sc book (take n (transcript_text sc book rec))) (λ kept. k ≤ length kept.steps) (λ why. ⊥)) }
+{}
+
+/// The example's text, cut before its last line end and within a step, and a beginning with an invalid line.
+pub fn prove_cut_texts_of_three_stations()
+    ensures truncated { transcript_of three three_stations (codes "transcript 1\nstart empty\nfit 1 1 1\nat 1 14\nend 1") ≡ Err Truncated }
+    ensures kept { prefix_of three three_stations (codes "transcript 1\nstart empty\nfit 1 1 1\nat 1 14\nfit 1 2 1\nat 2") ≡ Ok (first_steps 1 three_transcript) }
+    ensures rejected { prefix_of three three_stations (codes "transcript 1\nstart empty\nfit 1 1 1\nat 1 14\nat 2 14\n") ≡ Err (BadLine 5) }
 {}
