@@ -7,11 +7,8 @@ use Rattle.std.proofs.lemmas.List.{length-take, take-append-drop}
 use Rattle.std.proofs.Math.Seq.{take-append-add}
 use Rattle.pack_defs.specs.declared.scenario.Scenario.{Scenario}
 use Rattle.pack_defs.specs.Book.{BookView}
-use Rattle.pack_defs.specs.Scenario.{IsWithinLimits}
+use Rattle.auction_core.specs.NotShown.{first_steps}
 use Rattle.auction_core.specs.declared.prefix.Prefix.{Prefix}
-use Rattle.auction_core.specs.Backed.{IsBacked}
-use Rattle.auction_core.specs.declared.record.Ending.TheVariants.{Done}
-use Rattle.auction_core.specs.declared.record.Record.{Record}
 use Rattle.auction_core.specs.declared.transcript.Transcript.{Transcript}
 use Rattle.auction_core.specs.declared.transcript.TranscriptStep.{TranscriptStep}
 use Rattle.lrat_text.specs.Lines.{ended_lines}
@@ -21,12 +18,12 @@ use Rattle.transcript_text.specs.PrefixReading.{IsPrefixOf, KeepsAllOf, StepsOfP
 use Rattle.transcript_text.specs.PrefixSpelling.{prefix_spelling}
 use Rattle.transcript_text.specs.Reading.{transcript_of}
 use Rattle.transcript_text.specs.Spelled.{IsSpelled, IsStepSpelled}
-use Rattle.transcript_text.specs.RoundTrip.{IsHeld, IsNamed}
-use Rattle.transcript_text.specs.Spelling.{end_text, spelling, start_text, step_text, transcript_for, transcript_text, version_text}
+use Rattle.transcript_text.specs.Spelling.{end_text, spelling, start_text, step_text, version_text}
 use Rattle.transcript_text.proofs.FieldReads.{lines_at}
 use Rattle.transcript_text.proofs.PrefixLaws.{prefix-first}
-use Rattle.transcript_text.proofs.RecordReads.{record-spelled}
-use Rattle.transcript_text.proofs.TextReads.{shown-read, start-read, test_in, transcript-again, version-again}
+use Rattle.transcript_text.proofs.ReadSpelled.{IsReadable, read-fits}
+use Rattle.transcript_text.proofs.TextReads.{shown-read, start-read, test_in, version-again}
+use Rattle.transcript_text.proofs.TextReadLemmas.{transcript-said}
 
 -- ---- the steps
 
@@ -80,14 +77,17 @@ regrouped book t after =
     append_assoc first (second ++ (third ++ [])) after
     ∙ ap (λ (text : List ℕ). first ++ text) (append_assoc second (third ++ []) after ∙ ap (λ (text : List ℕ). second ++ (text ++ after)) (append-nil third))
 
-pub all-kept : (sc : Scenario) (book : BookView) (t : Transcript) (after : List ℕ) → IsSpelled sc book t → MatchResult (prefix_of sc book (prefix_spelling book (transcript_prefix t false) ++ after)) (KeepsAllOf t) (λ why. Unit {0})
+kept-there : (sc : Scenario) (book : BookView) (t : Transcript) (after : List ℕ) → length sc.workers < 2 ^ 32 → IsReadable sc book t → MatchResult (prefix_of sc book (prefix_spelling book (transcript_prefix t false) ++ after)) (KeepsAllOf t) (λ why. Unit {0})
 unfolding prefix_of prefix_start goes_on_there
-all-kept sc book t after h =
+kept-there sc book t after workers h =
     let behind = texts book t.steps after in
-    let start = start-read sc 2 t.start behind h.start in
-    let steps = steps-there sc book (length (ended_lines behind)) 0 start.0 t.steps after h.workers h.steps (omega arith) in
+    let start = start-read sc 2 t.start behind h.0 in
+    let steps = steps-there sc book (length (ended_lines behind)) 0 start.0 t.steps after workers h.1 (omega arith) in
     subst (λ (text : List ℕ). Keeps t (prefix_of sc book text)) (sym (regrouped book t after))
     (rw (version-again t.order (start_text t.start ++ behind), start.1) (with-steps t (prefix_steps sc book (length (ended_lines behind)) 0 (lines_at start.0 behind)) steps))
+
+pub all-kept : (sc : Scenario) (book : BookView) (t : Transcript) (after : List ℕ) → IsSpelled sc book t → MatchResult (prefix_of sc book (prefix_spelling book (transcript_prefix t false) ++ after)) (KeepsAllOf t) (λ why. Unit {0})
+all-kept sc book t after h = kept-there sc book t after h.workers (h.start, h.steps)
 
 -- ---- a cut text
 
@@ -100,15 +100,8 @@ some-spelled P zero xs h = tt
 some-spelled P (suc k) [] h = tt
 some-spelled P (suc k) (x ∷ xs) h = (h.0, some-spelled P k xs h.1)
 
-first-spelled : (sc : Scenario) (book : BookView) (k : ℕ) (t : Transcript) → IsSpelled sc book t → IsSpelled sc book (first k t)
-first-spelled sc book k t h =
-    let count = h.count in
-    record {
-      start = h.start;
-      steps = some-spelled (IsStepSpelled sc book) k t.steps h.steps;
-      count = omega (arith, count, length-take k t.steps);
-      workers = h.workers;
-    }
+first-readable : (sc : Scenario) (book : BookView) (k : ℕ) (t : Transcript) → IsReadable sc book t → IsReadable sc book (first k t)
+first-readable sc book k t h = (h.0, some-spelled (IsStepSpelled sc book) k t.steps h.1)
 
 -- The text begins with that of the first steps.
 first-there : (book : BookView) (k : ℕ) (t : Transcript) → spelling book t ≡ prefix_spelling book (transcript_prefix (first k t) false) ++ (flat_map (step_text book) (drop k t.steps) ++ end_text (length t.steps))
@@ -137,19 +130,19 @@ both : (t : Transcript) (k : ℕ) (r : Result Prefix TextErr) → k ≤ length t
 both t k (Ok kept) le h p = enough k t.steps kept.steps le h.steps
 both t k (Err e) le h p = p
 
-pub cut-keeps : (sc : Scenario) (book : BookView) (t : Transcript) (k n : ℕ) → IsSpelled sc book t → k ≤ length t.steps → length (prefix_spelling book (transcript_prefix (first k t) false)) ≤ n
-    → MatchResult (prefix_of sc book (take n (spelling book t))) (λ kept. k ≤ length kept.steps) (λ why. ⊥)
-cut-keeps sc book t k n h le long =
-    let front = prefix_spelling book (transcript_prefix (first k t) false) in
+-- A text that is read, cut after the lines of some steps or later.
+pub read-keeps : (sc : Scenario) (book : BookView) (text : List ℕ) (t : Transcript) (k n : ℕ) → length sc.workers < 2 ^ 32 → transcript_of sc book text ≡ Ok t → k ≤ length t.steps → length (prefix_spelling book (first_steps k t)) ≤ n
+    → MatchResult (prefix_of sc book (take n text)) (λ kept. k ≤ length kept.steps) (λ why. ⊥)
+read-keeps sc book text t k n few e le long =
+    let front = prefix_spelling book (first_steps k t) in
     let behind = flat_map (step_text book) (drop k t.steps) ++ end_text (length t.steps) in
-    let text = spelling book t in
-    let cut : take n text ≡ front ++ take (n - length front) behind = ap (take n) (first-there book k t) ∙ take-front front behind n long in
+    let cut : take n text ≡ front ++ take (n - length front) behind = ap (take n) (transcript-said sc book text t (omega (arith, few)) e ∙ first-there book k t) ∙ take-front front behind n long in
     both t k (prefix_of sc book (take n text)) le
-    (subst (λ (bytes : List ℕ). Keeps (first k t) (prefix_of sc book bytes)) (sym cut) (all-kept sc book (first k t) (take (n - length front) behind) (first-spelled sc book k t h)))
-    (prefix-first sc book (take n text) (drop n text) t (ap (transcript_of sc book) (take-append-drop n text) ∙ transcript-again sc book t h))
+    (subst (λ (bytes : List ℕ). Keeps (first k t) (prefix_of sc book bytes)) (sym cut) (kept-there sc book (first k t) (take (n - length front) behind) few (first-readable sc book k t (read-fits sc book text t e))))
+    (prefix-first sc book (take n text) (drop n text) t (ap (transcript_of sc book) (take-append-drop n text) ∙ e))
 
--- The same for the transcript of a record.
-pub record-keeps : (sc : Scenario) (book : BookView) (rec : Record) (k n : ℕ) → IsBacked sc book rec.order rec → rec.ending ≡ Done → IsWithinLimits sc → IsNamed sc book → IsHeld rec
-    → k ≤ length (transcript_for sc book rec).steps → length (prefix_spelling book (transcript_prefix (first k (transcript_for sc book rec)) false)) ≤ n
-    → MatchResult (prefix_of sc book (take n (transcript_text sc book rec))) (λ kept. k ≤ length kept.steps) (λ why. ⊥)
-record-keeps sc book rec k n backed done l named held = cut-keeps sc book (transcript_for sc book rec) k n (record-spelled sc book rec backed done l named held)
+-- A transcript that was read can be written.
+pub read-spelled : (sc : Scenario) (book : BookView) (text : List ℕ) (t : Transcript) → length sc.workers < 2 ^ 32 → length t.steps < 2 ^ 64 → transcript_of sc book text ≡ Ok t → IsSpelled sc book t
+read-spelled sc book text t few count e =
+    let fits = read-fits sc book text t e in
+    record { start = fits.0; steps = fits.1; count = count; workers = few }

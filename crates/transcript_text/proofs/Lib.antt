@@ -26,4 +26,5 @@ pub mod PrefixSteps
 pub mod PrefixLaws
 pub mod PrefixReadLemmas
 pub mod KeptSteps
+pub mod ReadSpelled
 pub mod NumeralLemmas

@@ -111,7 +111,7 @@ start-spelled sc book (Undecided receipts) l n a ascends h done = absurd cc
 
 -- ---- the complete transcript
 
-pub record-spelled : (sc : Scenario) (book : BookView) (rec : Record) → IsBacked sc book rec.order rec → rec.ending ≡ Done → IsWithinLimits sc → IsNamed sc book → IsHeld rec → IsSpelled sc book (transcript_for sc book rec)
+record-spelled : (sc : Scenario) (book : BookView) (rec : Record) → IsBacked sc book rec.order rec → rec.ending ≡ Done → IsWithinLimits sc → IsNamed sc book → IsHeld rec → IsSpelled sc book (transcript_for sc book rec)
 unfolding transcript_for
 record-spelled sc book rec backed done l n held =
     let a = auction-of sc book l n.in_order in

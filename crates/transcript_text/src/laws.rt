@@ -55,6 +55,11 @@ pub fn prove_one_text()
     ensures { (sc : Scenario) (book : BookView) (text : List ℕ) (t : Transcript) → length sc.workers < 2 ^ 32 → transcript_of sc book text ≡ Ok t → text ≡ spelling book t }
 {}
 
+/// A transcript that is read can be written. The scenario's workers must be counted in 32 bits, and the steps in 64.
+pub fn prove_read_transcript_can_be_written()
+    ensures { (sc : Scenario) (book : BookView) (text : List ℕ) (t : Transcript) → length sc.workers < 2 ^ 32 → length t.steps < 2 ^ 64 → transcript_of sc book text ≡ Ok t → IsSpelled sc book t }
+{}
+
 /// A complete transcript, read as a beginning, is returned complete, with its `end` line.
 pub fn prove_complete_prefix()
     ensures { (sc : Scenario) (book : BookView) (text : List ℕ) (t : Transcript) → transcript_of sc book text ≡ Ok t → prefix_of sc book text ≡ Ok (transcript_prefix t true) }
@@ -89,11 +94,10 @@ pub fn prove_error_is_final()
 
 /// A reader of beginnings keeps each step that is complete. A text that begins with the lines of a transcript's order, start
 /// and steps, whatever follows, is read with at least these, or rejected. A transcript's text, cut after the lines of some steps
-/// or later, is read with at least these steps. So is the text of a record's transcript.
+/// or later, is read with at least these steps. The scenario's workers must be counted in 32 bits.
 pub fn prove_complete_steps_are_kept()
     ensures all { (sc : Scenario) (book : BookView) (t : Transcript) (after : List ℕ) → IsSpelled sc book t → MatchResult (prefix_of sc book (prefix_spelling book (transcript_prefix t false) ++ after)) (KeepsAllOf t) (λ why. Unit {0}) }
-    ensures cut { (sc : Scenario) (book : BookView) (t : Transcript) (k n : ℕ) → IsSpelled sc book t → k ≤ length t.steps → length (prefix_spelling book (first_steps k t)) ≤ n → MatchResult (prefix_of sc book (take n (spelling book t))) (λ kept. k ≤ length kept.steps) (λ why. ⊥) }
-    ensures record { (sc : Scenario) (book : BookView) (rec : Record) (k n : ℕ) → IsBacked sc book rec.order rec → rec.ending ≡ Ending.Done → IsWithinLimits sc → IsNamed sc book → IsHeld rec → let t = transcript_for sc book rec in (k ≤ length t.steps → length (prefix_spelling book (first_steps k t)) ≤ n → MatchResult (prefix_of sc book (take n (transcript_text sc book rec))) (λ kept. k ≤ length kept.steps) (λ why. ⊥)) }
+    ensures cut { (sc : Scenario) (book : BookView) (text : List ℕ) (t : Transcript) (k n : ℕ) → length sc.workers < 2 ^ 32 → transcript_of sc book text ≡ Ok t → k ≤ length t.steps → length (prefix_spelling book (first_steps k t)) ≤ n → MatchResult (prefix_of sc book (take n text)) (λ kept. k ≤ length kept.steps) (λ why. ⊥) }
 {}
 
 /// The example's text, cut before its last line end and within a step, and a beginning with an invalid line.
