@@ -1,6 +1,6 @@
 -- The first step of a transcript that is not certified, and why. The order of the checks is this project's own: a step's test comes
 -- first, and then the places of its answer in their order.
-use Rattle.std.specs.Prelude.{ℕ, Bool, true, false, not, ◌≡◌, ◌&&◌, ◌+◌, ◌==◌, nat_le, if◌then◌else◌, List, [], ◌∷◌, length, slice_get, Option, Some, None, is_none, unwrap_or}
+use Rattle.std.specs.Prelude.{ℕ, Bool, true, false, not, ◌≡◌, ◌&&◌, ◌+◌, ◌==◌, nat_le, if◌then◌else◌, List, [], ◌∷◌, length, take, slice_get, Option, Some, None, is_none, unwrap_or}
 use Rattle.std.specs.Option.{option_map_or}
 use Rattle.pack_defs.specs.declared.order.Order.{Order}
 use Rattle.pack_defs.specs.declared.order.Order.TheVariants.{ByVolume}
@@ -224,6 +224,10 @@ started_fault sc book ended t = if ended then not_shown sc book t else within_st
 -- The first step of a transcript's beginning that is not certified, and why; `None` if an auction can continue from it.
 unfoldable pub not_kept : Scenario → BookView → Prefix → Option NotShown
 not_kept sc book p = option_map_or (λ start. started_fault sc book p.ended (as_transcript p start)) p.start (unstarted_fault p)
+
+-- The beginning of a transcript that is cut after this many steps: its order, its start and these steps.
+abbrev pub first_steps : ℕ → Transcript → Prefix
+first_steps n t = record { order = Some t.order; start = Some t.start; steps = take n t.steps; ended = false }
 
 -- Whether the error is what this definition finds, unless memory ran out.
 abbrev pub Explains : ResumeErr → Option NotShown → Type 0

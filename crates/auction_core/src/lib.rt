@@ -19,7 +19,7 @@
 //! - `transcript`, `prefix`: a transcript and the beginning of one, as values.
 //! - `check_sequence`, `step_check`: check a transcript by carrying out the auction again.
 //! - `certificates`, `receipts`, `log_numbers`, `step_err`: check the certificate of one step.
-//! - `laws`, `label_laws`: laws of the definitions, and worked examples.
+//! - `laws`, `label_laws`, `prefix_laws`: laws of the definitions, and worked examples.
 #![tactic(auto)]
 
 pub mod air_map;
@@ -35,6 +35,7 @@ mod log_numbers;
 pub mod pending_receipts;
 pub mod posting;
 pub mod prefix;
+pub mod prefix_laws;
 pub mod query_session;
 mod receipts;
 pub mod record;

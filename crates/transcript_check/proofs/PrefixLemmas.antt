@@ -95,7 +95,7 @@ first-part sc book n t e =
 -- ---- what is kept
 
 -- Two transcripts are equal if their parts are.
-same-transcript : (a b : Transcript) → a.order ≡ b.order → a.start ≡ b.start → a.steps ≡ b.steps → a ≡ b
+pub same-transcript : (a b : Transcript) → a.order ≡ b.order → a.start ≡ b.start → a.steps ≡ b.steps → a ≡ b
 same-transcript a b p q r = λ i. record { order = p i; start = q i; steps = r i }
 
 there-clean : (sc : Scenario) (book : BookView) (t own : Transcript) (ended : Bool) → not_shown sc book t ≡ None → IsPrefixOf (transcript_prefix own ended) t → not_kept sc book (transcript_prefix own ended) ≡ None
@@ -107,18 +107,18 @@ there-clean sc book t own false e h =
     ap (λ (x : Transcript). within_steps (length x.steps) (not_shown sc book x)) (same-transcript own part h.order h.start h.steps)
     ∙ first-part sc book (length own.steps) t e
 
-nothing-clean : (sc : Scenario) (book : BookView) → not_kept sc book empty_prefix ≡ None
+pub nothing-clean : (sc : Scenario) (book : BookView) → not_kept sc book empty_prefix ≡ None
 unfolding not_kept
 nothing-clean sc book = refl
 
-order-clean : (sc : Scenario) (book : BookView) (order : Order) → not_kept sc book (order_prefix order) ≡ None
+pub order-clean : (sc : Scenario) (book : BookView) (order : Order) → not_kept sc book (order_prefix order) ≡ None
 unfolding not_kept
 order-clean sc book order = refl
 
 -- ---- what reading a beginning comes to
 
 -- Whether the result, if there is one, satisfies the predicate.
-abbrev So : (Prefix → Type 0) → Result Prefix TextErr → Type 0
+abbrev pub So : (Prefix → Type 0) → Result Prefix TextErr → Type 0
 So P r = MatchResult r P (λ why. Unit {0})
 
 if-so : {A : Type 0} (P : Prefix → Type 0) (kept : Prefix) (r : Result A TextErr) (f : A → Result Prefix TextErr) → P kept → ((x : A) → So P (f x)) → So P (if_complete kept r f)

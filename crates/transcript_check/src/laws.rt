@@ -1,6 +1,6 @@
 //! Laws of sound transcripts, which speak of the definitions alone.
 
-ghost use Rattle.std.specs.Prelude.{◌≡◌, ◌<◌, ◌^◌, ◌++◌, [], ℕ, List, MatchResult, None, Ok, length};
+ghost use Rattle.std.specs.Prelude.{◌≡◌, ◌<◌, ◌≤◌, ◌^◌, ◌++◌, [], ℕ, List, MatchResult, None, Ok, Some, false, length};
 ghost use Rattle.pack_defs.specs.declared.scenario.Scenario.{Scenario};
 ghost use Rattle.pack_defs.specs.Book.{BookView};
 ghost use Rattle.auction_core.specs.declared.record.Record.{Record};
@@ -13,7 +13,7 @@ ghost use Rattle.transcript_text.specs.Reading.{transcript_of};
 ghost use Rattle.transcript_text.specs.Spelling.{transcript_for, transcript_text};
 ghost use Rattle.auction_core.specs.Rule.{IsAuction};
 ghost use Rattle.auction_core.specs.declared.transcript.Transcript.{Transcript};
-ghost use Rattle.auction_core.specs.NotShown.{not_kept, not_shown};
+ghost use Rattle.auction_core.specs.NotShown.{NotShown, not_kept, not_shown};
 ghost use Rattle.transcript_check.specs.Sound.{IsSound, transcript_record};
 
 /// A transcript is sound exactly if no step is the first one that is not shown.
@@ -45,4 +45,11 @@ pub fn prove_sound_transcript_is_complete()
 /// bits.
 pub fn prove_sound_transcript_is_record_text()
     ensures { (sc : Scenario) (book : BookView) (text : List ℕ) (t : Transcript) → length sc.workers < 2 ^ 32 → transcript_of sc book text ≡ Ok t → not_shown sc book t ≡ None → transcript_text sc book (transcript_record sc book t) ≡ text }
+{}
+
+/// A cut transcript's first error, as a beginning, is that of the complete transcript, if it is in the start or in a step that
+/// is kept. Otherwise it has none: from any cut before the first invalid step an auction can continue.
+pub fn prove_error_of_cut_transcript()
+    ensures before { (sc : Scenario) (book : BookView) (before after : List ℕ) (t : Transcript) (error : NotShown) → transcript_of sc book (before ++ after) ≡ Ok t → not_shown sc book t ≡ Some error → MatchResult (prefix_of sc book before) (λ kept. kept.ended ≡ false → length kept.steps < error.step → not_kept sc book kept ≡ None) (λ why. ⊥) }
+    ensures there { (sc : Scenario) (book : BookView) (before after : List ℕ) (t : Transcript) (error : NotShown) → transcript_of sc book (before ++ after) ≡ Ok t → not_shown sc book t ≡ Some error → MatchResult (prefix_of sc book before) (λ kept. kept.start ≡ Some t.start → error.step ≤ length kept.steps → not_kept sc book kept ≡ Some error) (λ why. ⊥) }
 {}

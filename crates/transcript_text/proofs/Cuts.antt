@@ -12,7 +12,7 @@ onto-append c false [] more some = absurd cc (some refl)
 onto-append c false (line ∷ lines) more some = refl
 
 -- A text that ends with a line end has a line, unless it is empty.
-some-line : (c : ℕ) (text : List ℕ) → is_whole (c ∷ text) ≡ true → is_empty (ended_lines (c ∷ text)) ≡ false
+pub some-line : (c : ℕ) (text : List ℕ) → is_whole (c ∷ text) ≡ true → is_empty (ended_lines (c ∷ text)) ≡ false
 unfolding is_whole ended_lines
 some-line c [] w = rw w refl
 some-line c (d ∷ rest) w = go (c == 10) (ended_lines (d ∷ rest)) (some-line d rest w)

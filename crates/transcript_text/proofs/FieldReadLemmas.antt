@@ -130,7 +130,7 @@ plain-number-said most n field le e = go (is_plainly_spelled field) refl e
         let is = natural-is most field n h in
         word-of-natural field n (natural-greatest most n field le is) (digits-short field is.digits (plain-shortest field p))
 
-found-said : {A B : Type 0} (n : ℕ) (o : Option A) (rest : B) (x : A × B) → found_or n o rest ≡ Ok x → (o ≡ Some x.0) × (rest ≡ x.1)
+pub found-said : {A B : Type 0} (n : ℕ) (o : Option A) (rest : B) (x : A × B) → found_or n o rest ≡ Ok x → (o ≡ Some x.0) × (rest ≡ x.1)
 found-said n None rest x e = absurd (err-ok (BadLine n) x e)
 found-said n (Some v) rest x e = let same = ok-same (v, rest) x e in (ap (λ y. Some y.0) same, ap (λ y. y.1) same)
 

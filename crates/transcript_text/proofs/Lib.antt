@@ -20,8 +20,11 @@ pub mod RecordReads
 pub mod Stays
 pub mod Ahead
 pub mod Cuts
+pub mod CutTexts
 pub mod Fed
 pub mod PrefixSteps
 pub mod PrefixLaws
 pub mod PrefixReadLemmas
+pub mod KeptSteps
+pub mod ReadSpelled
 pub mod NumeralLemmas

@@ -110,12 +110,12 @@ prefix-all sc book text t e =
 -- ---- the complete lines of a beginning are the first lines of the text
 
 -- The lines after those of the first bytes.
-lines_behind : List ℕ → List ℕ → List (List ℕ)
+unfoldable pub lines_behind : List ℕ → List ℕ → List (List ℕ)
 lines_behind [] after = ended_lines after
 lines_behind (c ∷ before) after =
     if c == 10 then lines_behind before after else (if is_empty (ended_lines before) then prepend_to_first_line c (lines_behind before after) else lines_behind before after)
 
-lines-apart : (before after : List ℕ) → ended_lines (before ++ after) ≡ ended_lines before ++ lines_behind before after
+pub lines-apart : (before after : List ℕ) → ended_lines (before ++ after) ≡ ended_lines before ++ lines_behind before after
 unfolding ended_lines lines_behind
 lines-apart [] after = refl
 lines-apart (c ∷ before) after =

@@ -25,7 +25,7 @@ Stays more (Err (BadLine n)) read = read ≡ Err (BadLine n)
 Stays more (Err Truncated) read = Unit {0}
 Stays more (Err NoMemory) read = read ≡ Err NoMemory
 
-stays-then : {A B : Type 0} (more : List (List ℕ)) (r s : Result (A × RemainingLines) TextErr) (f g : A × RemainingLines → Result (B × RemainingLines) TextErr)
+pub stays-then : {A B : Type 0} (more : List (List ℕ)) (r s : Result (A × RemainingLines) TextErr) (f g : A × RemainingLines → Result (B × RemainingLines) TextErr)
     → Stays more r s → ((x : A × RemainingLines) → Stays more (f x) (g (x.0, with_lines x.1 more))) → Stays more (r >>= f) (s >>= g)
 stays-then more (Ok x) s f g h k = subst (λ r. Stays more (f x) (r >>= g)) (sym h) (k x)
 stays-then more (Err Version) s f g h k = ap (λ r. r >>= g) h

@@ -249,7 +249,7 @@ end-head-said sc steps line head e =
     ∙ ap (λ (f : List (List ℕ)). codes "end" ∷ decimal steps ∷ f) (end-said r.0 u.0 u.1))
 
 -- A choice between two cases by a word.
-word-choice : (P : List ℕ → Head → Type 0) (word own : List ℕ) (head : Head) (this rest : Result Head TextErr) → (this ≡ Ok head → P own head) → (rest ≡ Ok head → P word head) → (if bytes_eq word own then this else rest) ≡ Ok head → P word head
+pub word-choice : (P : List ℕ → Head → Type 0) (word own : List ℕ) (head : Head) (this rest : Result Head TextErr) → (this ≡ Ok head → P own head) → (rest ≡ Ok head → P word head) → (if bytes_eq word own then this else rest) ≡ Ok head → P word head
 word-choice P word own head this rest f g e = go (bytes_eq word own) refl e
   where
     go : (b : Bool) → bytes_eq word own ≡ b → (if b then this else rest) ≡ Ok head → P word head

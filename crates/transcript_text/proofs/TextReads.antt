@@ -143,7 +143,7 @@ outside-shown sc book steps n t proof (first ∷ []) rest le s few h =
     (outside-head sc steps n t k le s few)
     (outside-read sc book (n + 1) t proof first rest h)
 
-shown-read : (sc : Scenario) (book : BookView) (steps n : ℕ) (t : StepTest) (shown : Shown) (firsts : List ℕ) (rest : List ℕ) → length sc.workers < 2 ^ 32 → t.round ≤ greatest_u32 → IsStation sc t.station → IsShownSpelled sc book t.station shown firsts
+pub shown-read : (sc : Scenario) (book : BookView) (steps n : ℕ) (t : StepTest) (shown : Shown) (firsts : List ℕ) (rest : List ℕ) → length sc.workers < 2 ^ 32 → t.round ≤ greatest_u32 → IsStation sc t.station → IsShownSpelled sc book t.station shown firsts
     → IsRead sc book steps n (shown_text book t.round t.station shown firsts) rest (step_of t shown firsts)
 unfolding shown_text
 shown-read sc book steps n t Empty firsts rest small le s h = absurd h
@@ -180,7 +180,7 @@ shown-read sc book steps n t (LeftOpen xs) firsts rest small le s h =
     (undecided-read sc book (n + 1) t xs firsts rest small h.0 h))
 
 -- The test of a step.
-abbrev test_in : TranscriptStep → StepTest
+abbrev pub test_in : TranscriptStep → StepTest
 test_in x = record { round = x.step.round; station = x.step.station }
 
 -- ---- all steps
@@ -227,7 +227,7 @@ regrouped book k (x ∷ xs) =
 start-word : IsField (codes "start")
 start-word = literal (codes "start") refl
 
-start-read : (sc : Scenario) (n : ℕ) (start : Shown) (rest : List ℕ) → IsStartSpelled sc start → Reads (start_at sc (lines_at n (start_text start ++ rest))) start rest
+pub start-read : (sc : Scenario) (n : ℕ) (start : Shown) (rest : List ℕ) → IsStartSpelled sc start → Reads (start_at sc (lines_at n (start_text start ++ rest))) start rest
 unfolding start_at start_text fit_start empty_start
 start-read sc n Empty rest h =
     (n + 1, rw (line-again n (codes "start") (codes "empty" ∷ []) rest (start-word, (literal (codes "empty") refl, tt)), word-again n (codes "start") (codes "empty" ∷ []), end-again n) refl)
@@ -262,7 +262,7 @@ line-whole : (fields : List (List ℕ)) → EndsWhole (line_of fields)
 unfolding is_whole
 line-whole fields = whole-behind (with_spaces fields) (10 ∷ []) (refl, omega arith)
 
-version-again : (order : Order) (rest : List ℕ) → version_at (ended_lines (version_text order ++ rest)) ≡ Ok (order, lines_at 2 rest)
+pub version-again : (order : Order) (rest : List ℕ) → version_at (ended_lines (version_text order ++ rest)) ≡ Ok (order, lines_at 2 rest)
 unfolding ended_lines with_spaces version_text order_of
 version-again ByFacility rest = refl
 version-again ByVolume rest = refl

@@ -97,3 +97,9 @@ pub record IsPrefixOf (kept : Prefix) (t : Transcript) : Type 0 where
   pub start : IsNoneOr kept.start t.start
   pub steps : kept.steps ≡ take (length kept.steps) t.steps
   pub all : kept.ended ≡ true → kept ≡ transcript_prefix t true
+
+-- Whether what was kept has the order, the start and all steps of this transcript, and perhaps more steps.
+pub record KeepsAllOf (t : Transcript) (kept : Prefix) : Type 0 where
+  pub order : kept.order ≡ Some t.order
+  pub start : kept.start ≡ Some t.start
+  pub steps : take (length t.steps) kept.steps ≡ t.steps

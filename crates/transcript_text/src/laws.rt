@@ -1,10 +1,11 @@
 //! Laws of a transcript's text, which speak of the definitions alone: worked examples, and the round trip.
 
-ghost use Rattle.std.specs.Prelude.{◌≡◌, ◌≢◌, ◌<◌, ◌^◌, ◌∷◌, ◌++◌, [], ℕ, List, MatchResult, Ok, Err, codes, length, take, true};
+ghost use Rattle.std.specs.Prelude.{◌≡◌, ◌≢◌, ◌<◌, ◌≤◌, ◌^◌, ◌∷◌, ◌++◌, [], ℕ, List, MatchResult, Ok, Err, codes, false, length, take, true};
 ghost use Rattle.auction_core.specs.declared.record.Shown.TheVariants as Shown;
 ghost use Rattle.pack_defs.specs.Scenario.{IsWithinLimits};
 ghost use Rattle.pack_defs.specs.declared.scenario.Scenario.{Scenario};
 ghost use Rattle.auction_core.specs.Backed.{IsBacked};
+ghost use Rattle.auction_core.specs.NotShown.{first_steps};
 ghost use Rattle.auction_core.specs.declared.record.Record.{Record};
 ghost use Rattle.auction_core.specs.declared.record.Ending.TheVariants as Ending;
 ghost use Rattle.transcript_text.specs.RoundTrip.{IsHeld, IsNamed};
@@ -13,10 +14,11 @@ ghost use Rattle.pack_defs.specs.declared.order.Order.TheVariants.{ByFacility};
 ghost use Rattle.auction_core.specs.declared.transcript.Transcript.{Transcript};
 ghost use Rattle.transcript_text.specs.Spelled.{IsSpelled};
 ghost use Rattle.pack_defs.specs.Examples.{three_stations};
+ghost use Rattle.transcript_text.specs.declared.error.TextErr.{TextErr};
 ghost use Rattle.transcript_text.specs.declared.error.TextErr.TheVariants.{BadLine, Truncated, Version};
 ghost use Rattle.transcript_text.specs.Examples.{fitted_step, later_text, later_transcript, other_text, other_transcript, three, three_text, three_transcript, two_workers};
 ghost use Rattle.auction_core.specs.declared.prefix.Prefix.{Prefix};
-ghost use Rattle.transcript_text.specs.PrefixReading.{IsPrefixOf, prefix_of, transcript_prefix};
+ghost use Rattle.transcript_text.specs.PrefixReading.{IsPrefixOf, KeepsAllOf, prefix_of, transcript_prefix};
 ghost use Rattle.transcript_text.specs.PrefixSpelling.{prefix_spelling};
 ghost use Rattle.transcript_text.specs.Reading.{transcript_of};
 ghost use Rattle.transcript_text.specs.Spelling.{spelling, transcript_for, transcript_text};
@@ -53,6 +55,11 @@ pub fn prove_one_text()
     ensures { (sc : Scenario) (book : BookView) (text : List ℕ) (t : Transcript) → length sc.workers < 2 ^ 32 → transcript_of sc book text ≡ Ok t → text ≡ spelling book t }
 {}
 
+/// A transcript that is read can be written. The scenario's workers must be counted in 32 bits, and the steps in 64.
+pub fn prove_read_transcript_can_be_written()
+    ensures { (sc : Scenario) (book : BookView) (text : List ℕ) (t : Transcript) → length sc.workers < 2 ^ 32 → length t.steps < 2 ^ 64 → transcript_of sc book text ≡ Ok t → IsSpelled sc book t }
+{}
+
 /// A complete transcript, read as a beginning, is returned complete, with its `end` line.
 pub fn prove_complete_prefix()
     ensures { (sc : Scenario) (book : BookView) (text : List ℕ) (t : Transcript) → transcript_of sc book text ≡ Ok t → prefix_of sc book text ≡ Ok (transcript_prefix t true) }
@@ -72,4 +79,30 @@ pub fn prove_no_prefix_rejected()
 /// workers must be counted in 32 bits.
 pub fn prove_text_begins_with_kept()
     ensures { (sc : Scenario) (book : BookView) (text : List ℕ) (kept : Prefix) → length sc.workers < 2 ^ 32 → prefix_of sc book text ≡ Ok kept → take (length (prefix_spelling book kept)) text ≡ prefix_spelling book kept }
+{}
+
+/// A transcript's text has no end but its own: if fewer bytes of it are read, lines are missing, wherever it is cut. So no
+/// transcript's text is the beginning of another's.
+pub fn prove_cut_text_is_truncated()
+    ensures { (sc : Scenario) (book : BookView) (text : List ℕ) (t : Transcript) (n : ℕ) → transcript_of sc book text ≡ Ok t → n < length text → transcript_of sc book (take n text) ≡ Err Truncated }
+{}
+
+/// Any error other than missing lines is final: the text has the same error, whatever bytes follow.
+pub fn prove_error_is_final()
+    ensures { (sc : Scenario) (book : BookView) (before after : List ℕ) (why : TextErr) → transcript_of sc book before ≡ Err why → why ≢ Truncated → transcript_of sc book (before ++ after) ≡ Err why }
+{}
+
+/// A reader of beginnings keeps each step that is complete. A text that begins with the lines of a transcript's order, start
+/// and steps, whatever follows, is read with at least these, or rejected. A transcript's text, cut after the lines of some steps
+/// or later, is read with at least these steps. The scenario's workers must be counted in 32 bits.
+pub fn prove_complete_steps_are_kept()
+    ensures all { (sc : Scenario) (book : BookView) (t : Transcript) (after : List ℕ) → IsSpelled sc book t → MatchResult (prefix_of sc book (prefix_spelling book (transcript_prefix t false) ++ after)) (KeepsAllOf t) (λ why. Unit {0}) }
+    ensures cut { (sc : Scenario) (book : BookView) (text : List ℕ) (t : Transcript) (k n : ℕ) → length sc.workers < 2 ^ 32 → transcript_of sc book text ≡ Ok t → k ≤ length t.steps → length (prefix_spelling book (first_steps k t)) ≤ n → MatchResult (prefix_of sc book (take n text)) (λ kept. k ≤ length kept.steps) (λ why. ⊥) }
+{}
+
+/// The example's text, cut before its last line end and within a step, and a beginning with an invalid line.
+pub fn prove_cut_texts_of_three_stations()
+    ensures truncated { transcript_of three three_stations (codes "transcript 1\nstart empty\nfit 1 1 1\nat 1 14\nend 1") ≡ Err Truncated }
+    ensures kept { prefix_of three three_stations (codes "transcript 1\nstart empty\nfit 1 1 1\nat 1 14\nfit 1 2 1\nat 2") ≡ Ok (first_steps 1 three_transcript) }
+    ensures rejected { prefix_of three three_stations (codes "transcript 1\nstart empty\nfit 1 1 1\nat 1 14\nat 2 14\n") ≡ Err (BadLine 5) }
 {}
