@@ -36,7 +36,7 @@ module _ {T B E : Type 0} (base_of : T → B) (entries : T → List (ℕ × E)) 
   Rule = RuleKept base start base_of entries
 
   -- a pass is made
-  pub splits : (id : ℕ) (v : V) (b : B) (n : ℕ) → v.base ≡ Some b → v.passes_made ≡ Some n → v.ticket ≡ None → v.turn ≡ false → n < 2 ^ 32 → Splits Rule id v (one_pass_more v) (copy_of v)
+  pub splits : (id : ℕ) (v : V) (b : B) (n : ℕ) → v.base ≡ Some b → v.passes_made ≡ Some n → v.ticket ≡ None → v.turn ≡ false → n + 1 < 2 ^ 32 → Splits Rule id v (one_pass_more v) (copy_of v)
   splits id v b n based makes no_ticket out room s r at =
       let m = r.at in
       let mine = living m id v (r.fits id v at) b based in

@@ -152,7 +152,7 @@ module _ {B E : Type 0} where
       pub at : Moment
       pub words : s.words ≡ at.issued % 2 ^ 64 ∷ at.served % 2 ^ 64 ∷ length (start ++ at.tail) ∷ []
       pub crowd : length s.views ≡ at.passes_made
-      pub few : at.passes_made ≤ 2 ^ 32
+      pub few : at.passes_made < 2 ^ 32
       pub count : HasCount s.views at.keeper at.passes_made
       pub waiting : at.served + waiting_in s.views ≡ at.issued
       pub ticketed : (t : ℕ) → at.served ≤ t → t < at.issued → HasTicket s.views (at.owner t) t
