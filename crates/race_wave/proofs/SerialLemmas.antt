@@ -1,8 +1,9 @@
 -- What a posting changes within a turn, and that a turn ends.
-use Rattle.std.proofs.Common.{◌≡◌, ◌∙◌, ℕ, ◌+◌, ◌<◌, ◌≤◌, Bool, true, false, cond, ◌==◌, nat_lt, nat_le, inl, inr, List, [], ◌∷◌, length, map, ◌++◌, append-nil, append_assoc, option_and_then, Some, None, refl, sym, ap, subst, arith, MatchOption, eq-eqb, eqb-true, ◌⊎◌}
+use Rattle.std.proofs.Common.{◌≡◌, ◌≢◌, ◌∙◌, ℕ, zero, suc, ◌+◌, ◌<◌, ◌≤◌, Bool, true, false, cond, not, ◌||◌, ◌==◌, nat_lt, nat_le, inl, inr, List, [], ◌∷◌, length, map, filter, ◌++◌, append-nil, append_assoc, option_and_then, Some, None, refl, sym, ap, subst, arith, MatchOption, eq-eqb, eqb-true, ne_eqb, ◌⊎◌}
+use Rattle.std.specs.List.{range_with_len}
 use Rattle.std.specs.Prelude.{slice_get}
 use Rattle.std.proofs.lemmas.Bool.{cases_lt, false_from_ne_true, false≢true, leb-true, or_cases, or_left, or_right}
-use Rattle.std.proofs.lemmas.List.{length-map}
+use Rattle.std.proofs.lemmas.List.{length-map, map-append}
 use Rattle.std.proofs.lemmas.Option.{slice_get_past}
 use Rattle.pack_defs.specs.declared.scenario.Scenario.{Scenario}
 use Rattle.pack_defs.specs.declared.worker.Worker.{Worker}
@@ -31,9 +32,9 @@ use Rattle.auction_core.specs.Take.{accepted, advanced, is_noted, noted_with, sp
 use Rattle.auction_core.proofs.QueryLemmas.{answered-fewer, answered-number}
 use Rattle.auction_core.proofs.TakingLemmas.{taken-told, task-noted}
 use Rattle.auction_core.proofs.TaskLemmas.{task-has}
-use Rattle.turn_lock.specs.Turns.{AllOf}
-use Rattle.turn_lock.proofs.Lists.{all_more}
-use Rattle.race_wave.specs.Serial.{AreOfTurn, ComesAfter, IsContinued, IsNotedFor, IsSettledSince, LeavesAfterAnswer, is_advanced}
+use Rattle.turn_lock.specs.Turns.{AllOf, StartsWith}
+use Rattle.turn_lock.proofs.Lists.{all_more, map_more}
+use Rattle.race_wave.specs.Serial.{AreOfTurn, ComesAfter, IsContinued, IsNotedFor, IsSettledSince, LeavesAfterAnswer, is_advanced, without_receipt}
 use Rattle.race_wave.proofs.WaveLemmas.{noted-now}
 
 cases_le : (a b : ℕ) → (a ≤ b) ⊎ (b < a)
@@ -71,6 +72,7 @@ continued-stays a b scenario book opened state history rule = record {
   more = [];
   history = history ∙ sym (append-nil a.history);
   turn = tt;
+  workers = (without_receipt a.state.noted (length a.scenario.workers), refl);
   rule = subst (λ (s : CoreState). KeepsTheRule b.scenario b.book s) (sym state) (subst (λ (k : BookView). KeepsTheRule b.scenario k a.state) (sym book) (subst (λ (sc : Scenario). KeepsTheRule sc a.book a.state) (sym scenario) rule));
 }
 
@@ -88,9 +90,19 @@ turn-then number count (e ∷ es) after h k =
 all-turn : (number count : ℕ) (es : List EntryView) → AllOf (IsNotedEntry number count) es → AreOfTurn number count es
 all-turn number count es h = subst (AreOfTurn number count) (append-nil es) (turn-then number count es [] h tt)
 
+-- The workers of an entry.
+abbrev worker-of : EntryView → ℕ
+worker-of e = e.worker
+
+-- Those that are asked first, and then the first of those that are left.
+asked-then : (all left : List ℕ) (first second : List EntryView) → all ≡ map worker-of first ++ left → StartsWith left (map worker-of second) → StartsWith all (map worker-of (first ++ second))
+asked-then all left first second e h =
+    (h.0, e ∙ (ap (λ l. map worker-of first ++ l) h.1 ∙ (sym (append_assoc (map worker-of first) (map worker-of second) h.0) ∙ ap (λ l. l ++ h.0) (sym (map-append worker-of first second)))))
+
 -- More of the same turn was posted.
-pub continued-then : (a b c : AuctionView) (h : IsContinued a b) → AllOf (IsNotedEntry a.state.number (length a.scenario.workers)) h.more → b.state.number ≡ a.state.number → IsContinued b c → IsContinued a c
-continued-then a b c h noted number k = record {
+pub continued-then : (a b c : AuctionView) (h : IsContinued a b) → AllOf (IsNotedEntry a.state.number (length a.scenario.workers)) h.more → b.state.number ≡ a.state.number
+    → without_receipt a.state.noted (length a.scenario.workers) ≡ map worker-of h.more ++ without_receipt b.state.noted (length b.scenario.workers) → IsContinued b c → IsContinued a c
+continued-then a b c h noted number asked k = record {
   scenario = k.scenario ∙ h.scenario;
   book = k.book ∙ h.book;
   opened = k.opened ∙ h.opened;
@@ -99,6 +111,7 @@ continued-then a b c h noted number k = record {
   history = k.history ∙ (ap (λ l. l ++ k.more) h.history ∙ append_assoc a.history h.more k.more);
   turn = turn-then a.state.number (length a.scenario.workers) h.more k.more noted
       (subst (λ (n : ℕ). AreOfTurn n (length a.scenario.workers) k.more) number (subst (λ (sc : Scenario). AreOfTurn b.state.number (length sc.workers) k.more) h.scenario k.turn));
+  workers = asked-then (without_receipt a.state.noted (length a.scenario.workers)) (without_receipt b.state.noted (length b.scenario.workers)) h.more k.more asked k.workers;
   rule = k.rule;
 }
 
@@ -192,6 +205,54 @@ with-others x (n ∷ ns) v h =
       ]
     ]
 
+-- Whether another worker's receipt is pending does not change.
+other-noted : (x : NotedSpent) (ns : List NotedSpent) (v : ℕ) → v ≢ x.worker → is_noted (noted_with x ns) v ≡ is_noted ns v
+other-noted x [] v ne = ap (λ b. b || false) (ne_eqb x.worker v (λ e. ne (sym e)))
+other-noted x (n ∷ ns) v ne =
+    elim (nat_lt x.worker n.worker) as (λ b. is_noted (cond b (x ∷ n ∷ ns) (n ∷ noted_with x ns)) v ≡ is_noted (n ∷ ns) v) [
+      | true ↦ ap (λ b. b || is_noted (n ∷ ns) v) (ne_eqb x.worker v (λ e. ne (sym e)))
+      | false ↦ ap (λ b. (n.worker == v) || b) (other-noted x ns v ne)
+    ]
+
+-- Two tests that differ at w alone choose the same numbers past it.
+same-past : (p q : ℕ → Bool) (w a n : ℕ) → w < a → ((v : ℕ) → v ≢ w → q v ≡ p v) → filter (λ v. not (p v)) (range_with_len a n) ≡ filter (λ v. not (q v)) (range_with_len a n)
+same-past p q w a zero lt same = refl
+same-past p q w a (suc n) lt same =
+    let here : p a ≡ q a = sym (same a (λ e. absurd (omega (arith, e, lt)))) in
+    let rest = same-past p q w (a + 1) n (omega (arith, lt)) same in
+    λ j. cond (not (here j)) (a ∷ rest j) (rest j)
+
+-- If w is the first number that is not marked, marking it takes it from the front.
+first-of : (p q : ℕ → Bool) (w a n : ℕ) → a ≤ w → w < a + n → ((v : ℕ) → v < w → p v ≡ true) → p w ≡ false → q w ≡ true → ((v : ℕ) → v ≢ w → q v ≡ p v)
+    → filter (λ v. not (p v)) (range_with_len a n) ≡ w ∷ filter (λ v. not (q v)) (range_with_len a n)
+first-of p q w a zero le lt before at now same = absurd (omega (arith, le, lt))
+first-of p q w a (suc n) le lt before at now same =
+    elim (cases_lt a w) [
+      | inl below ↦
+          let skipped : p a ≡ true = before a below in
+          let skips : q a ≡ true = same a (λ e. absurd (omega (arith, e, below))) ∙ skipped in
+          rw (skipped, skips) (first-of p q w (a + 1) n (omega (arith, below)) (omega (arith, lt)) before at now same)
+      | inr ge ↦
+          let here : a ≡ w = omega (arith, le, ge) in
+          let kept : p a ≡ false = ap p here ∙ at in
+          let gone : q a ≡ true = ap q here ∙ now in
+          let rest = same-past p q w (a + 1) n (omega (arith, here)) same in
+          rw (kept, gone) (λ j. here j ∷ rest j)
+    ]
+
+-- The first worker without a pending receipt, and the others once its receipt is pending.
+asks-first : (x : NotedSpent) (ns : List NotedSpent) (count : ℕ) → x.worker < count → ((v : ℕ) → v < x.worker → is_noted ns v ≡ true) → is_noted ns x.worker ≡ false → without_receipt ns count ≡ x.worker ∷ without_receipt (noted_with x ns) count
+asks-first x ns count within before new =
+    first-of (is_noted ns) (is_noted (noted_with x ns)) x.worker 0 count (omega arith) (omega (arith, within)) before new (noted-now x ns) (other-noted x ns)
+
+-- The first worker without a pending receipt stands in front.
+pub asks-one : (ns : List NotedSpent) (count w : ℕ) → w < count → ((v : ℕ) → v < w → is_noted ns v ≡ true) → is_noted ns w ≡ false → StartsWith (without_receipt ns count) (w ∷ [])
+asks-one ns count w within before new =
+    let q : ℕ → Bool = λ v. (v == w) || is_noted ns v in
+    let now : q w ≡ true = or_left (w == w) (is_noted ns w) (eq-eqb w w refl) in
+    let same : (v : ℕ) → v ≢ w → q v ≡ is_noted ns v = λ v ne. ap (λ b. b || is_noted ns v) (ne_eqb v w ne) in
+    (filter (λ v. not (q v)) (range_with_len 0 count), first-of (is_noted ns) q w 0 count (omega arith) (omega (arith, within)) before new now same)
+
 -- An ascending list that has each number from lo up to k, without k, has at least that many elements.
 many : (lo k : ℕ) (xs : List ℕ) → is_ascending xs ≡ true → ((v : ℕ) → lo ≤ v → v < k → is_in xs v ≡ true) → k ≤ lo + length xs
 many lo k [] a h =
@@ -237,6 +298,7 @@ pub record IsMidTurn (old new : AuctionView) (task : Task) (i : ℕ) : Type 0 wh
   pub entries : AllOf (IsNotedEntry old.state.number (length old.scenario.workers)) continued.more
   pub same : new.state ≡ record old.state { noted = new.state.noted }
   pub noted : (v : ℕ) → v < i → is_noted new.state.noted v ≡ true
+  pub asked : without_receipt old.state.noted (length old.scenario.workers) ≡ map worker-of continued.more ++ without_receipt new.state.noted (length new.scenario.workers)
   pub stands : task_of new.scenario new.book new.state ≡ Some task
   pub query : IsQuery new.book task
 
@@ -250,6 +312,7 @@ mid-start a task rule stands query = record {
   entries = tt;
   same = refl;
   noted = λ v h. absurd (omega (arith, h));
+  asked = refl;
   stands = stands;
   query = query;
 }
@@ -261,22 +324,29 @@ mid-skip old new task i m h = record {
   entries = m.entries;
   same = m.same;
   noted = up-to (λ v. is_noted new.state.noted v ≡ true) i m.noted h;
+  asked = m.asked;
   stands = m.stands;
   query = m.query;
 }
 
 -- The turn continues.
 pub mid-then : (old new next : AuctionView) (task : Task) (i : ℕ) → IsMidTurn old new task i → IsContinued new next → IsContinued old next
-mid-then old new next task i m k = continued-then old new next m.continued m.entries (mid-number old new task i m) k
+mid-then old new next task i m k = continued-then old new next m.continued m.entries (mid-number old new task i m) m.asked k
 
-pub mid-more : (old new next : AuctionView) (task : Task) (i : ℕ) → i < length new.scenario.workers → IsMidTurn old new task i → IsContinued new next → IsNotedFor i new next → IsMidTurn old next task (i + 1)
-mid-more old new next task i known m k n =
+pub mid-more : (old new next : AuctionView) (task : Task) (i : ℕ) → i < length new.scenario.workers → is_noted new.state.noted i ≡ false → IsMidTurn old new task i → IsContinued new next → IsNotedFor i new next → IsMidTurn old next task (i + 1)
+mid-more old new next task i known fresh m k n =
     let x : NotedSpent = record { worker = i; receipt = n.receipt } in
     let noted : next.state.noted ≡ noted_with x new.state.noted = ap (λ (s : CoreState). s.noted) n.same in
     let e : EntryView = entry_of (record { worker = i; number = new.state.number; answer = Spent n.receipt }) Noted in
     let within : i < length old.scenario.workers = subst (λ (sc : Scenario). i < length sc.workers) m.continued.scenario known in
     let one : AllOf (IsNotedEntry old.state.number (length old.scenario.workers)) (e ∷ []) = (record { query = mid-number old new task i m; worker = within; reply = refl }, tt) in
     let entries : AllOf (IsNotedEntry old.state.number (length old.scenario.workers)) (m.continued.more ++ e ∷ []) = all_more (IsNotedEntry old.state.number (length old.scenario.workers)) m.continued.more (e ∷ []) m.entries one in
+    let before : List ℕ = map worker-of m.continued.more in
+    let after : List ℕ = without_receipt next.state.noted (length next.scenario.workers) in
+    let left : without_receipt (noted_with x new.state.noted) (length new.scenario.workers) ≡ after = λ j. without_receipt (sym noted j) (length (sym k.scenario j).workers) in
+    let first : without_receipt new.state.noted (length new.scenario.workers) ≡ i ∷ after = asks-first x new.state.noted (length new.scenario.workers) known m.noted fresh ∙ ap (λ l. i ∷ l) left in
+    let asked : without_receipt old.state.noted (length old.scenario.workers) ≡ map worker-of (m.continued.more ++ e ∷ []) ++ after =
+    m.asked ∙ (ap (λ l. before ++ l) first ∙ (sym (append_assoc before (i ∷ []) after) ∙ ap (λ l. l ++ after) (sym (map_more worker-of m.continued.more e)))) in
     record {
       continued = record {
         scenario = k.scenario ∙ m.continued.scenario;
@@ -286,11 +356,13 @@ mid-more old new next task i known m k n =
         more = m.continued.more ++ e ∷ [];
         history = n.history ∙ (ap (λ l. l ++ e ∷ []) m.continued.history ∙ append_assoc old.history m.continued.more (e ∷ []));
         turn = all-turn old.state.number (length old.scenario.workers) (m.continued.more ++ e ∷ []) entries;
+        workers = (after, asked);
         rule = k.rule;
       };
       entries = entries;
       same = n.same ∙ (λ j. record (m.same j) { noted = sym noted j });
       noted = λ v h. subst (λ ns. is_noted ns v ≡ true) (sym noted) (up-to (λ v. is_noted (noted_with x new.state.noted) v ≡ true) i (λ v b. with-others x new.state.noted v (m.noted v b)) (noted-now x new.state.noted) v h);
+      asked = asked;
       stands = (λ j. task_of (k.scenario j) (k.book j) (n.same j)) ∙ (task-noted new.scenario new.book new.state (noted_with x new.state.noted) ∙ m.stands);
       query = subst (λ b. IsQuery b task) (sym k.book) m.query;
     }

@@ -1,5 +1,6 @@
 -- What a serial turn changes of an auction. That racers try the current query in turn is this project's own.
-use Rattle.std.specs.Prelude.{ℕ, Bool, true, false, ◌+◌, ◌<◌, ◌≡◌, ◌⊎◌, List, [], ◌∷◌, ◌++◌, length, ⊤}
+use Rattle.std.specs.Prelude.{ℕ, Bool, true, false, not, ◌+◌, ◌<◌, ◌≡◌, ◌⊎◌, List, [], ◌∷◌, ◌++◌, filter, length, map, ⊤}
+use Rattle.std.specs.List.{range_with_len}
 use Rattle.pack_defs.specs.declared.scenario.Scenario.{Scenario}
 use Rattle.cert_types.specs.declared.answer.Answer.TheVariants.{Spent}
 use Rattle.cert_types.specs.declared.answer.Receipt.{Receipt}
@@ -8,8 +9,9 @@ use Rattle.auction_core.specs.declared.posting.Reply.TheVariants.{Ended, WrongQu
 use Rattle.auction_core.specs.Auction.{AuctionView}
 use Rattle.auction_core.specs.Replay.{EntryView, entry_of}
 use Rattle.auction_core.specs.Rule.{KeepsTheRule}
-use Rattle.auction_core.specs.State.{CoreState, has_ended, queries_left}
-use Rattle.auction_core.specs.Take.{noted_with}
+use Rattle.auction_core.specs.State.{CoreState, NotedSpent, has_ended, queries_left}
+use Rattle.auction_core.specs.Take.{is_noted, noted_with}
+use Rattle.turn_lock.specs.Turns.{StartsWith}
 
 -- Whether these entries may follow this reply within a turn: any may follow Noted, and none may follow Advanced;
 -- other replies do not occur in a turn.
@@ -33,8 +35,13 @@ abbrev pub AreOfTurn : ℕ → ℕ → List EntryView → Type 0
 AreOfTurn number count [] = ⊤
 AreOfTurn number count (e ∷ after) = IsInTurn number count e after × AreOfTurn number count after
 
+-- The workers 0 to `count` - 1, in order, without those of these pending receipts.
+abbrev pub without_receipt : List NotedSpent → ℕ → List ℕ
+without_receipt noted count = filter (λ w. not (is_noted noted w)) (range_with_len 0 count)
+
 -- Whether the new auction continues the old one: scenario, book, opening state and order are the same, the history is
--- the old one and then entries of a turn at the query that was current, and the clock rule holds.
+-- the old one and then entries of a turn at the query that was current, and the clock rule holds. The workers of these
+-- entries are the first of those without a pending receipt, in order, each once.
 pub record IsContinued (old new : AuctionView) : Type 0 where
   pub scenario : new.scenario ≡ old.scenario
   pub book : new.book ≡ old.book
@@ -43,6 +50,7 @@ pub record IsContinued (old new : AuctionView) : Type 0 where
   pub more : List EntryView
   pub history : new.history ≡ old.history ++ more
   pub turn : AreOfTurn old.state.number (length old.scenario.workers) more
+  pub workers : StartsWith (without_receipt old.state.noted (length old.scenario.workers)) (map (λ e. e.worker) more)
   pub rule : KeepsTheRule new.scenario new.book new.state
 
 -- Whether the query is settled: the next number is current, and fewer queries are left.

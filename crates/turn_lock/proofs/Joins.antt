@@ -1,16 +1,18 @@
 -- How passes are made and joined, and what is left once all passes are joined into one. For `make` and `close`.
 use Rattle.std.proofs.Common.{◌≡◌, ◌≢◌, ◌∙◌, ◌⊎◌, ℕ, ◌+◌, ◌^◌, ◌<◌, ◌==◌, List, [], ◌∷◌, ◌++◌, length, map, set, false, Option, Some, None, refl, sym, ap, subst, arith, inl, inr, ⊎_elim, suc, length-set, length-append, eq-eqb, ne_eqb}
 use Rattle.std.specs.Prelude.{if◌then◌else◌, unwrap_or, option_map}
+use mathlib.Core.Logic.{dite}
 use mathlib.Core.Option.{some, some-injective}
+use native.Mathlib.Decide.{ℕ_discrete}
 use lib.ListN.{get_elem?}
 use Rattle.std.proofs.lemmas.Bool.{cases_Bool, false≢true}
 use Rattle.atomic_table.specs.Table.{State, Final, Joins, Seen, Splits}
-use Rattle.atomic_table.proofs.Lists.{at_longer, set_else}
+use Rattle.atomic_table.proofs.Lists.{at_longer, set_else, set_here}
 use Rattle.turn_lock.specs.declared.chronicle.PassKnowledge.{PassKnowledge}
 use Rattle.turn_lock.specs.declared.chronicle.View.{View}
-use Rattle.turn_lock.specs.Turns.{AllOf, FitsKnown, IsKnownAs, IsClosedHistory, Knows, Moment, RuleKept, by, copy_of, either_of, joined_view, nobody, one_if, one_pass_more}
-use Rattle.turn_lock.proofs.Lists.{all_map, all_more, at_more, by_none, each_set, none_is, numbered, some_is, waiting_more, waiting_set}
-use Rattle.turn_lock.proofs.Views.{Fit, apart, elsewhere, living, put_at, put_else, put_here, still, still_else, turning}
+use Rattle.turn_lock.specs.Turns.{AllOf, FitsKnown, HasCount, IsKnownAs, IsClosedHistory, Knows, Moment, RuleKept, by, copy_of, either_of, joined_view, nobody, one_if, one_pass_more}
+use Rattle.turn_lock.proofs.Lists.{all_map, all_more, at_more, by_none, each_set, inside, none_is, numbered, some_is, waiting_more, waiting_set}
+use Rattle.turn_lock.proofs.Views.{Fit, apart, counts_else, counts_still, elsewhere, living, put_at, put_else, put_here, still, still_else, turning}
 use Rattle.turn_lock.proofs.Weighs.{weighs_once}
 
 -- a function with one value changed
@@ -34,7 +36,7 @@ module _ {T B E : Type 0} (base_of : T → B) (entries : T → List (ℕ × E)) 
   Rule = RuleKept base start base_of entries
 
   -- a pass is made
-  pub splits : (id : ℕ) (v : V) (b : B) (n : ℕ) → v.base ≡ Some b → v.passes_made ≡ Some n → v.ticket ≡ None → v.turn ≡ false → n < 2 ^ 32 → Splits Rule id v (one_pass_more v) (copy_of v)
+  pub splits : (id : ℕ) (v : V) (b : B) (n : ℕ) → v.base ≡ Some b → v.passes_made ≡ Some n → v.ticket ≡ None → v.turn ≡ false → n + 1 < 2 ^ 32 → Splits Rule id v (one_pass_more v) (copy_of v)
   splits id v b n based makes no_ticket out room s r at =
       let m = r.at in
       let mine = living m id v (r.fits id v at) b based in
@@ -46,12 +48,18 @@ module _ {T B E : Type 0} (base_of : T → B) (entries : T → List (ℕ × E)) 
       let m' : At = record m { passes_made = m.passes_made + 1; holder = put_at m.passes_made place m.holder } in
       let number : unwrap_or v.passes_made 0 ≡ m.passes_made = ap (λ (o : Option ℕ). unwrap_or o 0) makes ∙ is in
       let same_place : length (set s.views id left) ≡ place = length-set s.views id left in
+      let one_more : suc m.passes_made ≡ m.passes_made + 1 = omega arith in
       let wider : (seat : ℕ) (k : PassKnowledge E) → FitsKnown base start m.passes_made m.tail m.holder seat k → FitsKnown base start m'.passes_made m.tail m'.holder seat k =
       λ seat k f. let below : k.number < m.passes_made = f.below in record { prefix = f.prefix; below = omega arith; holds = put_else m.passes_made place m.holder k.number (λ q. absurd (omega arith)) ∙ f.holds; mine = f.mine } in record {
         at = m';
         words = r.words;
         crowd = let c = r.crowd in omega (arith, length-append (set s.views id left) (right ∷ []), same_place);
         few = let c : n ≡ m.passes_made = is in omega arith;
+        count = (
+          left,
+          at_longer (set s.views id left) (right ∷ []) m.keeper left (ap (get_elem? (set s.views id left)) keeps_it ∙ set_here s.views id left (inside s.views id v at)),
+          ap (option_map (λ (a : ℕ). suc a)) makes ∙ ap (λ (k : ℕ). Some (suc k)) is ∙ ap (λ (k : ℕ). Some k) one_more,
+        );
         waiting = let waits = waiting_set s.views id v left at in let more = waiting_more (set s.views id left) right in let before = r.waiting in omega arith;
         ticketed = λ t from lt. let h = still s.views id v left at refl (m.owner t) t (r.ticketed t from lt) in (h.0, at_longer (set s.views id left) (right ∷ []) (m.owner t) h.0 h.1, h.2);
         authors = all_map (λ e h. let below : e.0 < m.passes_made = h in omega arith) m.tail r.authors;
@@ -98,6 +106,10 @@ module _ {T B E : Type 0} (base_of : T → B) (entries : T → List (ℕ × E)) 
   either_is None b n e = inr e
   either_is (Some k) b n e = inl e
 
+  either_has : (a b : Option ℕ) (n : ℕ) → ((k : ℕ) → a ≡ Some k → k ≡ n) → b ≡ Some n → either_of a b ≡ Some n
+  either_has None b n same e = e
+  either_has (Some k) b n same e = ap (λ (j : ℕ). Some j) (same k refl)
+
   -- one pass is joined into another and becomes `nobody`
   pub joins : (id : ℕ) (v : V) (other : ℕ) (w : V) (a b : B) → v.base ≡ Some a → w.base ≡ Some b → v.ticket ≡ None → w.ticket ≡ None → v.turn ≡ false → w.turn ≡ false → Joins Rule id v other w (joined_view v w) nobody
   joins id v other w a b based w_based no_ticket w_none out w_out s r at apart_from there =
@@ -116,6 +128,15 @@ module _ {T B E : Type 0} (base_of : T → B) (entries : T → List (ℕ × E)) 
         words = r.words;
         crowd = length-set (set s.views id both) other nobody ∙ (length-set s.views id both ∙ r.crowd);
         few = r.few;
+        count = dite (ℕ_discrete m.keeper other)
+            (λ is. let counted : w.passes_made ≡ Some m.passes_made = ap (λ (x : V). x.passes_made) (some-injective w r.count.0 (sym w_at ∙ (ap (get_elem? s.views) (sym is) ∙ r.count.1))) ∙ r.count.2 in (
+              both,
+              ap (get_elem? (set (set s.views id both) other nobody)) (moved_here other id (λ _. m.keeper) 0 is) ∙ (set_else (set s.views id both) other id nobody id_not ∙ set_here s.views id both (inside s.views id v at)),
+              either_has v.passes_made w.passes_made m.passes_made (λ k q. (lv.passes_made k q).0) counted,
+            ))
+            (λ ne. subst (λ (k : ℕ). HasCount (set (set s.views id both) other nobody) k m.passes_made) (sym (moved_else other id (λ _. m.keeper) 0 m.keeper refl ne))
+            (counts_else (set s.views id both) other nobody m.keeper m.passes_made ne
+            (counts_still s.views id v both at (λ n q. ap (λ (o : Option ℕ). either_of o w.passes_made) q) m.keeper m.passes_made r.count)));
         waiting = let one = waiting_set s.views id v both at in let two = waiting_set (set s.views id both) other w nobody there in let zero_before : one_if w.ticket ≡ 0 = ap one_if w_none in let before = r.waiting in omega arith;
         ticketed = λ t from lt. let h = r.ticketed t from lt in
             still_else (set s.views id both) other nobody (m.owner t) t (elsewhere s.views other w h.0 w_at w_none (m.owner t) t h.1 h.2) (still s.views id v both at refl (m.owner t) t h);

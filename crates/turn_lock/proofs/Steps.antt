@@ -13,7 +13,7 @@ use Rattle.turn_lock.specs.declared.chronicle.PassKnowledge.{PassKnowledge}
 use Rattle.turn_lock.specs.declared.chronicle.View.{View}
 use Rattle.turn_lock.specs.Turns.{FitsKnown, Moment, RuleKept, StartsWith, counted, drawn, founder, known, left, looked, one_if}
 use Rattle.turn_lock.proofs.Lists.{all_map, all_more, by_more, by_other, each_set, inside, mod_more, none_is, one_slot, some_is, waiting_le, waiting_set}
-use Rattle.turn_lock.proofs.Views.{Fit, apart, elsewhere, living, one_view, put_at, put_else, put_here, still, still_else, turning}
+use Rattle.turn_lock.proofs.Views.{Fit, apart, counts_still, elsewhere, living, one_view, put_at, put_else, put_here, still, still_else, turning}
 
 module _ {T B E : Type 0} (base_of : T → B) (entries : T → List (ℕ × E)) (base : B) (start : List (ℕ × E)) where
   abbrev V : Type 0
@@ -45,6 +45,7 @@ module _ {T B E : Type 0} (base_of : T → B) (entries : T → List (ℕ × E)) 
         words = ap (λ (k : ℕ). 0 ∷ 0 ∷ k ∷ []) (counts ∙ ap length (is ∙ sym (append-nil start)));
         crowd = refl;
         few = omega arith;
+        count = (founder base start, refl, refl);
         waiting = refl;
         ticketed = λ t le lt. let below : t < 0 = lt in absurd (omega arith);
         authors = tt;
@@ -79,6 +80,7 @@ module _ {T B E : Type 0} (base_of : T → B) (entries : T → List (ℕ × E)) 
           words = ap (λ ws. set ws 0 ((get_or ws 0 0 + 1) % 2 ^ 64)) r.words ∙ ap (λ (k : ℕ). k ∷ m.served % 2 ^ 64 ∷ length (start ++ m.tail) ∷ []) (mod_more n);
           crowd = length-set s.views id w ∙ r.crowd;
           few = r.few;
+          count = counts_still s.views id me.0 w at (λ _ q. q) m.keeper m.passes_made r.count;
           waiting = omega arith;
           ticketed = λ t le lt. dite (ℕ_discrete t n)
               (λ is. (w, ap (get_elem? (set s.views id w)) (ap (put_at n id m.owner) is ∙ put_here n id m.owner) ∙ set_here s.views id w (inside s.views id me.0 at), ap (λ (k : ℕ). Some k) (sym is)))
@@ -139,6 +141,7 @@ module _ {T B E : Type 0} (base_of : T → B) (entries : T → List (ℕ × E)) 
           words = ap (λ ws. set ws 1 (get_or ws 1 0)) r.words;
           crowd = length-set s.views id w ∙ r.crowd;
           few = r.few;
+          count = counts_still s.views id me.0 w at (λ _ q. q) m.keeper m.passes_made r.count;
           waiting = let waits = waiting_set s.views id me.0 w at in let before = r.waiting in omega arith;
           ticketed = λ u from lt. still s.views id me.0 w at refl (m.owner u) u (r.ticketed u from lt);
           authors = r.authors;
@@ -213,6 +216,7 @@ module _ {T B E : Type 0} (base_of : T → B) (entries : T → List (ℕ × E)) 
           words = ap (λ ws. set ws 2 ((get_or ws 2 0 + 1) % 2 ^ 64)) r.words ∙ ap (λ (k : ℕ). m.issued % 2 ^ 64 ∷ m.served % 2 ^ 64 ∷ k ∷ []) one_more;
           crowd = length-set s.views id w ∙ r.crowd;
           few = r.few;
+          count = counts_still s.views id me.0 w at (λ _ q. q) m.keeper m.passes_made r.count;
           waiting = let waits = waiting_set s.views id me.0 w at in let before = r.waiting in omega arith;
           ticketed = λ u from lt. still s.views id me.0 w at refl (m.owner u) u (r.ticketed u from lt);
           authors = all_more (λ (x : ℕ × E). x.0 < m.passes_made) m.tail (e ∷ []) r.authors (subst (λ (k : ℕ). k < m.passes_made) (sym number) mine.own.below, tt);
@@ -265,6 +269,7 @@ module _ {T B E : Type 0} (base_of : T → B) (entries : T → List (ℕ × E)) 
           words = ap (λ ws. set ws 1 new) r.words ∙ ap (λ (k : ℕ). m.issued % 2 ^ 64 ∷ k ∷ length (start ++ m.tail) ∷ []) (next ∙ ap (λ (n : ℕ). (n + 1) % 2 ^ 64) (sym is));
           crowd = length-set s.views id w ∙ r.crowd;
           few = r.few;
+          count = counts_still s.views id me.0 w at (λ _ q. q) m.keeper m.passes_made r.count;
           waiting = let waits = waiting_set s.views id me.0 w at in let one : one_if me.0.ticket ≡ 1 = ap one_if ticket in let before = r.waiting in omega arith;
           ticketed = λ u from lt.
               let after : m.served + 1 ≤ u = from in

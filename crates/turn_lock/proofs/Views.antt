@@ -8,7 +8,7 @@ use lib.ListN.{get_elem?}
 use Rattle.std.proofs.lemmas.Bool.{false≢true}
 use Rattle.atomic_table.proofs.Lists.{set_here, set_else}
 use Rattle.turn_lock.specs.declared.chronicle.View.{View}
-use Rattle.turn_lock.specs.Turns.{HasTicket, Live, Moment, nobody}
+use Rattle.turn_lock.specs.Turns.{HasCount, HasTicket, Live, Moment, nobody}
 use Rattle.turn_lock.proofs.Lists.{inside, none_is}
 
 -- a function with one value changed
@@ -58,3 +58,12 @@ module _ {B E : Type 0} (views : List (View B E)) where
   still id v w here same at t h = dite (ℕ_discrete at id)
       (λ is. (w, ap (get_elem? (set views id w)) is ∙ set_here views id w (inside views id v here), same ∙ (ap (λ (x : View B E). x.ticket) (some-injective v h.0 (sym here ∙ (ap (get_elem? views) (sym is) ∙ h.1))) ∙ h.2)))
       (λ ne. still_else id w at t ne h)
+
+  -- a count stays if another view changes, or if its own view changes and has the same count
+  pub counts_else : (id : ℕ) (w : View B E) (at n : ℕ) → at ≢ id → HasCount views at n → HasCount (set views id w) at n
+  counts_else id w at n ne h = (h.0, set_else views id at w ne ∙ h.1, h.2)
+
+  pub counts_still : (id : ℕ) (v w : View B E) → get_elem? views id ≡ some v → ((n : ℕ) → v.passes_made ≡ Some n → w.passes_made ≡ Some n) → (at n : ℕ) → HasCount views at n → HasCount (set views id w) at n
+  counts_still id v w here same at n h = dite (ℕ_discrete at id)
+      (λ is. (w, ap (get_elem? (set views id w)) is ∙ set_here views id w (inside views id v here), same n (ap (λ (x : View B E). x.passes_made) (some-injective v h.0 (sym here ∙ (ap (get_elem? views) (sym is) ∙ h.1))) ∙ h.2)))
+      (λ ne. counts_else id w at n ne h)

@@ -108,6 +108,10 @@ module _ {B E : Type 0} where
   abbrev pub HasTicket : List (View B E) → ℕ → ℕ → Type 0
   HasTicket views seat ticket = (v : View B E) × (get_elem? views seat ≡ some v) × (v.ticket ≡ Some ticket)
 
+  -- Whether the view at this seat counts the passes that were made, and has counted `n`.
+  abbrev pub HasCount : List (View B E) → ℕ → ℕ → Type 0
+  HasCount views seat n = (v : View B E) × (get_elem? views seat ≡ some v) × (v.passes_made ≡ Some n)
+
   module _ (base : B) (start : List (ℕ × E)) where
     -- Whether this knowledge of a pass is right for the history after `start`: the pass has seen a beginning, and its own entries
     -- are those with its number.
@@ -142,12 +146,14 @@ module _ {B E : Type 0} where
       pub own : FitsKnown m.passes_made m.tail m.holder seat v.own
       pub others : AllOf (λ k. FitsKnown m.passes_made m.tail m.holder seat k × (k.number ≢ v.own.number)) v.joined
 
-    -- The rule. Each view is that of a pass, or what is left of a pass that was joined into another.
+    -- The rule. Each view is that of a pass, or what is left of a pass that was joined into another. Exactly one counts the passes:
+    -- the keeper's view does (`count`), and no other may (`passes_made` of `Live`).
     pub record RuleKept {T : Type 0} (base_of : T → B) (entries : T → List (ℕ × E)) (s : State (Option T) (View B E)) : Type 0 where
       pub at : Moment
       pub words : s.words ≡ at.issued % 2 ^ 64 ∷ at.served % 2 ^ 64 ∷ length (start ++ at.tail) ∷ []
       pub crowd : length s.views ≡ at.passes_made
-      pub few : at.passes_made ≤ 2 ^ 32
+      pub few : at.passes_made < 2 ^ 32
+      pub count : HasCount s.views at.keeper at.passes_made
       pub waiting : at.served + waiting_in s.views ≡ at.issued
       pub ticketed : (t : ℕ) → at.served ≤ t → t < at.issued → HasTicket s.views (at.owner t) t
       pub authors : AllOf (λ e. e.0 < at.passes_made) at.tail

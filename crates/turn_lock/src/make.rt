@@ -1,6 +1,6 @@
 //! How a lock is made, with all the passes that it will ever have.
 
-ghost use Rattle.std.specs.Prelude.{◌≡◌, ◌<◌, ◌∷◌, [], IfErr, IfOk, Some, map};
+ghost use Rattle.std.specs.Prelude.{◌≡◌, ◌+◌, ◌<◌, ◌^◌, ◌∷◌, [], IfErr, IfOk, Some, map};
 ghost use Rattle.turn_lock.specs.Passes.{AreAllOf, IsPassIdle, IsPassOf, known_of, value_under, pass_identity};
 ghost use Rattle.turn_lock.specs.Turns.{AllOf, copy_of, each_new, founder, one_pass_more};
 
@@ -96,6 +96,7 @@ impl<T: Chronicle> TurnLock<T> {
         requires own { IsPassOf T.base T.entries self.now pass.old }
         requires idle { IsPassIdle pass.old }
         requires makes { pass.old.seat.me.0.passes_made ≡ Some number }
+        requires room { number + 1 < 2 ^ 32 }
         ensures own { (pass.new.seat.table_id ≡ self.now.table.shared.table_id) × (result.seat.table_id ≡ self.now.table.shared.table_id) }
         ensures pass { pass.new.seat.me ≡ (one_pass_more pass.old.seat.me.0, []) }
         ensures new { result.seat.me ≡ (copy_of pass.old.seat.me.0, []) }

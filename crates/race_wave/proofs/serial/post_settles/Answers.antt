@@ -1,8 +1,8 @@
 -- An accepted answer settles the query, or its receipt is noted.
-use Rattle.std.proofs.Common.{refl}
+use Rattle.std.proofs.Common.{length, refl}
 use Rattle.auction_core.specs.declared.posting.Posting.{Posting}
 use Rattle.auction_core.specs.declared.posting.Said.TheVariants.{Good}
-use Rattle.race_wave.proofs.SerialLemmas.{IsAnswered, told-leaves, told-turn}
+use Rattle.race_wave.proofs.SerialLemmas.{IsAnswered, asks-one, told-leaves, told-turn}
 use Rattle.race_wave.proofs.serial.post_settles.Goals as goal
 
 pub returns-clause-continued : goal.returns-clause-continued
@@ -25,6 +25,7 @@ returns-clause-continued c =
       more = _;
       history = c.take-reply.ensures.history;
       turn = told-turn _ _ posting c.args.certified c.take-reply.result answered;
+      workers = asks-one c.args.auction.now.state.noted (length c.args.auction.now.scenario.workers) c.args.worker c.requires.known c.requires.before c.requires.new;
       rule = c.take-reply.ensures.rule;
     }
 
