@@ -1,11 +1,12 @@
 -- Each ending, by how the auction ended.
-use Rattle.std.proofs.Common.{inr, refl, subst}
+use Rattle.std.proofs.Common.{[], ◌∷◌, List, inr, refl, subst}
 use Rattle.commands.specs.Ends.Concludes.{Unfit, StartOpen, Delivered}
-use Rattle.commands.specs.Records.{IsEndedRecordIn, IsOpenRecordIn, IsRecordIn, IsRefutedRecordIn}
-use Rattle.std.proofs.Common.{ap}
+use Rattle.commands.specs.Records.{IsEndedRecordIn, IsOpenRecordIn, IsRecordIn, IsRefutedRecordIn, done_status}
 use Rattle.auction_core.specs.Backed.{undecided_of}
 use Rattle.commands.specs.Calls.ConcludesCalls.{Stores}
-use Rattle.commands.proofs.CallLemmas.{no-auction, starved-calls}
+use Rattle.commands.specs.Delivery.{Delivers, NamedText, named}
+use Rattle.commands.specs.Outside.{outside}
+use Rattle.commands.proofs.CallLemmas.{no-auction}
 use Rattle.commands.proofs.DeliveryLemmas.{ended-of}
 use Rattle.commands.proofs.RunLemmas.{ended-statuses}
 use Rattle.commands.proofs.run.conclude.Goals as goal
@@ -44,6 +45,15 @@ returns-in-StartUndecided-clause-called g c = λ kept. no-auction _ _ 7 _ refl c
 
 pub returns-clause-called : goal.returns-clause-called
 returns-clause-called g c = λ kept.
+    let names = c.args.names.now in
+    let texts : List NamedText = named names.result.now c.deref.result.now ∷ named names.channels.now c.deref-2.result.now ∷ named names.transcript.now c.deref-3.result.now ∷ [] in
+    let summary = c.deref-4.result.now in
+    let undecided = undecided_of c.args.rec.steps in
+    let before = outside (g.F.Folder.modelled c.args.folder.now) (g.K.Sink.modelled c.args.out.now) in
+    let after = outside (g.F.Folder.modelled c.deliver-status.new.folder) (g.K.Sink.modelled c.deliver-status.new.out) in
+    let status = c.deliver-status.result in
     rw c.with_record-2.ensures.status
-    (Stores (ended-statuses _ _ (undecided_of c.args.rec.steps) _ _ c.deliver-status.result (ended-of _ _ _ _ _ _ (rw c.done_status-done.ensures at c.deliver-status.ensures.delivers)))
+    (Stores (ended-statuses texts summary undecided before after status
+    (ended-of texts summary (done_status undecided) before after status
+    (subst (λ done. Delivers texts summary done before after status) c.done_status-done.ensures c.deliver-status.ensures.delivers)))
     (c.deliver-status.ensures.asked (λ e. cc e) kept))
