@@ -1,6 +1,6 @@
 -- The calls of a folder that keeps a diary: from the calls of the parts to those of the whole.
-use Rattle.std.proofs.Common.{◌≡◌, ◌≢◌, ◌⊎◌, ◌∙◌, ℕ, true, inl, inr, List, [], ◌∷◌, ◌++◌, map, take, Option, Some, None, refl, sym, ap, subst}
-use Rattle.std.specs.Prelude.{Ok, Err, Result, IsSome, IsTrue}
+use Rattle.std.proofs.Common.{◌≡◌, ◌≢◌, ◌⊎◌, ◌∙◌, ℕ, inl, inr, List, [], ◌∷◌, ◌++◌, map, take, Option, Some, None, refl, sym, ap, subst}
+use Rattle.std.specs.Prelude.{Ok, Err, IsSome, IsTrue}
 use Rattle.std.specs.Option.{option_map_or}
 use Rattle.std.proofs.lemmas.List.Elements.{All-cons, All-head, All-nil, All-tail}
 use Rattle.pack_defs.specs.Lists.{is_in}
@@ -11,7 +11,7 @@ use Rattle.outside_io.specs.Models.{FolderModel}
 use Rattle.outside_io.specs.StoreAll.{AreAllStored, StopsAt, stored_file}
 use Rattle.outside_io.specs.declared.folder.NewFile.{NewFile}
 use Rattle.outside_io.specs.declared.diary.CallKind.{CallKind}
-use Rattle.outside_io.specs.declared.diary.CallKind.TheVariants.{Load, Begin, Piece, Store}
+use Rattle.outside_io.specs.declared.diary.CallKind.TheVariants.{Store}
 use Rattle.outside_io.specs.declared.diary.CallEnd.{CallEnd}
 use Rattle.outside_io.specs.declared.diary.CallEnd.TheVariants.{Done, Failed, TooLong, NoMemory as OutOfMemory}
 use Rattle.outside_io.specs.declared.folder.LoadErr.{LoadErr}
@@ -21,12 +21,11 @@ use Rattle.command_words.specs.declared.run_words.Input.{Input}
 use Rattle.command_words.specs.Words.{InputNames, name_of}
 use Rattle.commands.specs.declared.inputs.input_file.Stop.{Stop}
 use Rattle.commands.specs.declared.inputs.input_file.Stop.TheVariants.{CannotRead, Refused, NoMemory}
-use Rattle.commands.specs.Calls.{AreStores, CallsAll, CallsOne, CallsPieces, ConcludesCalls, Diary, HasAsked, IsPartRead, IsReadUpTo, IsUnread, KeepsRunDiary, RunCalls, after_calls, loaded_as, owner_calls, piece_as}
+use Rattle.commands.specs.Calls.{AreStores, CallsAll, CallsOne, CallsPieces, ConcludesCalls, Diary, HasAsked, IsPartRead, IsReadUpTo, IsUnread, KeepsRunDiary, after_calls, loaded_as, owner_calls, piece_as}
 use Rattle.commands.specs.Calls.IsUnread.{CallFailed, PieceFailed}
 use Rattle.commands.specs.Calls.IsPartRead.{NotAsked, Asked, PieceLost}
 use Rattle.commands.specs.Calls.ConcludesCalls.{NoStore, Stores}
 use Rattle.commands.specs.Calls.RunCalls.{Unread, Stopped, AllRead}
-use Rattle.commands.specs.declared.inputs.Inputs.{Inputs}
 use Rattle.commands.specs.Ends.{ExplainsHalt}
 use Rattle.commands.specs.Inputs.{IsBookOf, refused_by, stop_of}
 use Rattle.commands.specs.declared.inputs.sources.Sources.{Sources}

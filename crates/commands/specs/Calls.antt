@@ -1,9 +1,8 @@
 -- The calls that a command makes of a folder that keeps a diary: which inputs it reads, where the reading stops, and what it stores.
-use Rattle.std.specs.Prelude.{◌≡◌, ◌⊎◌, ℕ, All, List, [], ◌∷◌, ◌++◌, Option, Some, None, Result, Ok, Err, IsSome, IsTrue, MatchOption}
+use Rattle.std.specs.Prelude.{◌≡◌, ◌⊎◌, ℕ, All, List, [], ◌∷◌, ◌++◌, Option, Some, None, Result, Ok, Err, IsSome, IsTrue}
 use Rattle.pack_defs.specs.Lists.{is_in}
 use Rattle.auction_core.specs.declared.record.Record.{Record}
 use Rattle.outside_io.specs.Diary.{FolderCall, with_call}
-use Rattle.outside_io.specs.declared.diary.CallKind.{CallKind}
 use Rattle.outside_io.specs.declared.diary.CallKind.TheVariants.{Load, Begin, Piece, Store}
 use Rattle.outside_io.specs.declared.diary.CallEnd.{CallEnd}
 use Rattle.outside_io.specs.declared.diary.CallEnd.TheVariants.{Done, Failed}

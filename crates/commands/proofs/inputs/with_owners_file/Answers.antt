@@ -1,6 +1,6 @@
 -- The owners' file is loaded if it is named.
 use Rattle.std.proofs.lemmas.Result.{err_from_is_err_and}
-use Rattle.commands.proofs.CallLemmas.{owners-none, owners-read, owners-stop}
+use Rattle.commands.proofs.CallLemmas.{owners-read, owners-stop}
 use Rattle.commands.proofs.inputs.with_owners_file.Goals as goal
 
 pub returns-in_err-owners-clause-called : goal.returns-in_err-owners-clause-called

@@ -6,7 +6,7 @@ use Rattle.commands.proofs.EndLemmas.{own-ended}
 use Rattle.commands.proofs.RunEndLemmas.{run-concludes}
 use Rattle.command_words.specs.Words.{inputs_view}
 use Rattle.commands.specs.Calls.{input_calls}
-use Rattle.commands.proofs.CallLemmas.{run-goes-on, run-stops, starved-calls}
+use Rattle.commands.proofs.CallLemmas.{run-goes-on, run-stops}
 use Rattle.commands.proofs.run.run.Goals as goal
 
 pub conclude-requires-clause-of : goal.conclude-requires-clause-of
