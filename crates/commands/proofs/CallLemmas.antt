@@ -66,7 +66,7 @@ pub kept-after : (xs : List FolderCall) (old : Diary) → IsSome (after_calls xs
 kept-after [] old h = h
 kept-after (x ∷ xs) old h = kept-before x old (with_call x old) refl (kept-after xs (with_call x old) h)
 
--- a reading does not stop for want of a file
+-- a reading did not stop at a file that cannot be read
 abbrev pub IsRefusal : Stop → Type 0
 IsRefusal (CannotRead i) = ⊥
 IsRefusal (Refused why) = Unit {0}

@@ -31,5 +31,5 @@ returns-in-None-clause-called g c =
 pub returns-in-Err-Refused-clause-called : goal.returns-in-Err-Refused-clause-called
 returns-in-Err-Refused-clause-called g c = planned _ _ _ _ _ _ _ (plan-none _ ((rw c.in-Err-Refused.field-0-is at c.in-Err-Refused.ensures.refused) tt)) refl
 
-pub returns-clause-called : goal.returns-clause-called
-returns-clause-called g c = starved-diary _ _ _ _ _ c.end_out_of_memory.ensures.status c.end_out_of_memory.ensures.none
+pub returns-in-Err-NoMemory-clause-called : goal.returns-in-Err-NoMemory-clause-called
+returns-in-Err-NoMemory-clause-called g c = starved-diary _ _ _ _ _ c.end_out_of_memory.ensures.status c.end_out_of_memory.ensures.none

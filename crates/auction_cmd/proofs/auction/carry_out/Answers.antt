@@ -60,7 +60,7 @@ returns-in-Import-clause-ends g c =
     )
 
 pub returns-in-Run-clause-called : goal.returns-in-Run-clause-called
-returns-in-Run-clause-called g c = rw c.in-Run.is (λ kept. run-diary (input_calls (inputs_view c.in-Run.files.now.inputs)) _ _ _ _ _ _ (c.run.ensures.called kept))
+returns-in-Run-clause-called g c = rw c.in-Run.is (λ kept. run-diary (input_calls (inputs_view c.in-Run.files.inputs)) _ _ _ _ _ _ (c.run.ensures.called kept))
 
 pub returns-in-Check-clause-called : goal.returns-in-Check-clause-called
 returns-in-Check-clause-called g c = rw c.in-Check.is tt
