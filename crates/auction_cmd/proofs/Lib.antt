@@ -1,6 +1,7 @@
 pub mod BatchLemmas
 pub mod BatchReadings
 pub mod CheckLemmas
+pub mod DiaryLemmas
 pub mod ImportLemmas
 pub mod LiveLemmas
 pub mod GeneratedLemmas

@@ -1,3 +1,4 @@
 pub mod BatchPromises
+pub mod DiaryPromises
 pub mod Program
 pub mod ResumePromises

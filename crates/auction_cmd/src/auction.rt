@@ -8,6 +8,7 @@ ghost use Rattle.commands.specs.Messages.{twice_line};
 ghost use Rattle.commands.specs.Outside.{IsLinePrintedTo, outside};
 ghost use Rattle.commands.specs.Plan.{plan_of};
 ghost use Rattle.commands.specs.Statuses.{NO_COMMAND, REFUSED};
+ghost use Rattle.auction_cmd.specs.DiaryPromises.{CommandDiary, ProgramDiary};
 ghost use Rattle.auction_cmd.specs.Program.{CommandEnds, HasNoRecord, ProgramEnds, ProgramPromises};
 
 use command_words::words::{CommandArgs, WordsFault, read_words};
@@ -65,6 +66,9 @@ fn carry_out<F: Folder, K: Sink, G: Gate + Sync, W: Threads + Wait + Sync>(
         (outside (F.modelled folder.new) (K.modelled out.new)) result }
     ensures counted { AreFaultsCounted
         (outside (F.modelled folder.old) (K.modelled out.old)) (outside (F.modelled folder.new) (K.modelled out.new)) result.status }
+    ensures called { CommandDiary (command_view command.now)
+        (outside (F.modelled folder.old) (K.modelled out.old)) (outside (F.modelled folder.new) (K.modelled out.new))
+        (F.modelled folder.old).calls (F.modelled folder.new).calls result }
 {
     match command {
         CommandArgs::Run(files) => run(rt, alloc, files, folder, out, gate),
@@ -93,6 +97,9 @@ fn answer<F: Folder, K: Sink, G: Gate + Sync, W: Threads + Wait + Sync>(
         (outside (F.modelled folder.new) (K.modelled out.new)) result }
     ensures counted { AreFaultsCounted
         (outside (F.modelled folder.old) (K.modelled out.old)) (outside (F.modelled folder.new) (K.modelled out.new)) result.status }
+    ensures called { ProgramDiary (plan_of (map string_bytes words.now))
+        (outside (F.modelled folder.old) (K.modelled out.old)) (outside (F.modelled folder.new) (K.modelled out.new))
+        (F.modelled folder.old).calls (F.modelled folder.new).calls result }
 {
     match read_words(alloc, words) {
         Ok(command) => match command.given_twice() {
@@ -193,6 +200,11 @@ pub fn auction_main<F: Folder, K: Sink, G: Gate + Sync, W: Threads + Wait + Sync
     // At which statuses the fault counts of the outside stay.
     ensures counted { AreFaultsCounted
         (outside (F.modelled folder.old) (K.modelled out.old)) (outside (F.modelled folder.new) (K.modelled out.new)) result.status }
+
+    // Which calls are made of a folder that keeps a diary: what is read and stored, and in which order.
+    ensures called { ProgramDiary (plan_of (map string_bytes words.now))
+        (outside (F.modelled folder.old) (K.modelled out.old)) (outside (F.modelled folder.new) (K.modelled out.new))
+        (F.modelled folder.old).calls (F.modelled folder.new).calls result }
 {
     answer(rt, alloc, words, folder, out, gate)
 }

@@ -1,4 +1,5 @@
 pub mod BatchEndLemmas
+pub mod CallLemmas
 pub mod DeliveryLemmas
 pub mod EndLemmas
 pub mod FeedLemmas

@@ -13,6 +13,7 @@ pub mod LivePromises
 pub mod Make
 pub mod MakePromises
 pub mod Outside
+pub mod Calls
 pub mod Constraints
 pub mod Plan
 pub mod Promises

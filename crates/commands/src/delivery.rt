@@ -2,7 +2,8 @@
 //!
 //! Every command that stores a file does it here. A command that also prints a summary prints it once all its files are stored.
 
-ghost use Rattle.std.specs.Prelude.{◌≡◌, IfErr, OnOk, map};
+ghost use Rattle.std.specs.Prelude.{◌≡◌, ◌≢◌, [], IfErr, IsSome, OnOk, map};
+ghost use Rattle.commands.specs.Calls.{HasAsked};
 ghost use Rattle.commands.specs.Delivery.{AreAllStored, Delivers, ExplainsStore, IsNotStored, IsStored, StopsAtOne, named, named_text};
 ghost use Rattle.commands.specs.Faults.{AreFaultsCounted};
 ghost use Rattle.commands.specs.Outside.{outside};
@@ -59,6 +60,7 @@ pub fn store_all<F: Folder, K: Sink>(
         (outside (F.modelled folder.old) (K.modelled out.old)) (outside (F.modelled folder.new) (K.modelled out.new))) }
     ensures stopped { IfErr result (StopsAtOne (map named_text texts.now)
         (outside (F.modelled folder.old) (K.modelled out.old)) (outside (F.modelled folder.new) (K.modelled out.new))) }
+    ensures asked { texts.now ≢ [] → IsSome (F.modelled folder.new).calls → HasAsked (F.modelled folder.old).calls (F.modelled folder.new).calls }
 {
     match folder.store_all(texts) {
         Ok(()) => Ok(()),
@@ -96,6 +98,7 @@ pub fn deliver<F: Folder, K: Sink>(
         (outside (F.modelled folder.old) (K.modelled out.old)) (outside (F.modelled folder.new) (K.modelled out.new)) result }
     ensures counted { AreFaultsCounted
         (outside (F.modelled folder.old) (K.modelled out.old)) (outside (F.modelled folder.new) (K.modelled out.new)) result }
+    ensures asked { texts.now ≢ [] → IsSome (F.modelled folder.new).calls → HasAsked (F.modelled folder.old).calls (F.modelled folder.new).calls }
 {
     if let Err(status) = store_all(folder, out, texts) {
         return status;

@@ -6,8 +6,10 @@ ghost use Rattle.std.specs.Prelude.{◌≡◌, List, Some, IfOk, option_map};
 ghost use Rattle.outside_io.specs.Files.{StoredFile};
 ghost use Rattle.pack_defs.specs.Book.{stations_of};
 ghost use Rattle.pack_defs.specs.Scenario.{IsWithinLimits, facilities};
+ghost use Rattle.outside_io.specs.declared.diary.CallEnd.TheVariants.{Done};
+ghost use Rattle.commands.specs.Calls.{CallsAll, CallsOne, input_calls, loaded_as, owner_calls, source_calls, stopped_by};
 ghost use Rattle.commands.specs.Inputs.{Agrees, CountsFault, inputs_of, owners_in, valued_of, with_owners_file};
-ghost use Rattle.command_words.specs.Words.{inputs_view};
+ghost use Rattle.command_words.specs.Words.{InputNames, inputs_view};
 
 pub(crate) mod batch_inputs;
 pub(crate) mod constraints;
@@ -52,6 +54,7 @@ fn read_valued<F: Folder>(
     ensures files { (F.modelled folder.new).files ≡ (F.modelled folder.old).files }
     ensures steady { (F.modelled folder.new).steady ≡ (F.modelled folder.old).steady }
     ensures counted { CountsFault (F.modelled folder.old).faults (F.modelled folder.new).faults result }
+    ensures called { CallsAll (inputs_view names.now) (source_calls (inputs_view names.now)) (F.modelled folder.old).calls (F.modelled folder.new).calls (stopped_by result) }
 {
     let sources = read_sources(alloc, folder, names)?;
     let book = book_of(alloc, &sources)?;
@@ -84,6 +87,7 @@ fn owners_from<F: Folder>(
     ensures files { (F.modelled folder.new).files ≡ (F.modelled folder.old).files }
     ensures steady { (F.modelled folder.new).steady ≡ (F.modelled folder.old).steady }
     ensures counted { CountsFault (F.modelled folder.old).faults (F.modelled folder.new).faults result }
+    ensures called { CallsOne (loaded_as Done name.now) Input.Owners (F.modelled folder.old).calls (F.modelled folder.new).calls (stopped_by result) }
 {
     let ids = ids_of(alloc, scenario)?;
     let falls = last_round(scenario) - 1;
@@ -110,6 +114,8 @@ fn with_owners_file<F: Folder>(
     ensures files { (F.modelled folder.new).files ≡ (F.modelled folder.old).files }
     ensures steady { (F.modelled folder.new).steady ≡ (F.modelled folder.old).steady }
     ensures counted { CountsFault (F.modelled folder.old).faults (F.modelled folder.new).faults result }
+    ensures called { (names : InputNames) → names.owners ≡ option_map (λ n. n.now) name.entry →
+        CallsAll names (owner_calls names.owners) (F.modelled folder.old).calls (F.modelled folder.new).calls (stopped_by result) }
 {
     let Some(name) = name else {
         return Ok(inputs);
@@ -143,6 +149,7 @@ pub fn read_inputs<F: Folder>(
     ensures files { (F.modelled folder.new).files ≡ (F.modelled folder.old).files }
     ensures steady { (F.modelled folder.new).steady ≡ (F.modelled folder.old).steady }
     ensures counted { CountsFault (F.modelled folder.old).faults (F.modelled folder.new).faults result }
+    ensures called { CallsAll (inputs_view names.now) (input_calls (inputs_view names.now)) (F.modelled folder.old).calls (F.modelled folder.new).calls (stopped_by result) }
 {
     let inputs = read_valued(alloc, folder, names)?;
     with_owners_file(alloc, folder, names.owners, inputs)

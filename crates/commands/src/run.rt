@@ -3,18 +3,19 @@
 //! Only `auction_cmd` calls `run`, for `live` too. Other commands use its parts: `resume` concludes an auction with `conclude`,
 //! and `make` and `top_channel_runs` run one with `auction_of`.
 
-ghost use Rattle.std.specs.Prelude.{◌≡◌, [], IfOk, None};
+ghost use Rattle.std.specs.Prelude.{◌≡◌, [], IfOk, IsSome, None};
 ghost use Rattle.std.specs.List.{list_any};
 ghost use Rattle.pack_defs.specs.Scenario.{IsWithinLimits};
 ghost use Rattle.auction_core.specs.Backed.{is_undecided, undecided_of};
 ghost use Rattle.auction_core.specs.Setup.{IsOfAuction};
 ghost use Rattle.result_text.specs.ChannelsText.{channels_text};
 ghost use Rattle.transcript_text.specs.Spelling.{transcript_text};
+ghost use Rattle.commands.specs.Calls.{ConcludesCalls, KeepsRunDiary, input_calls};
 ghost use Rattle.commands.specs.Ends.{ConcludesUnlessOutOfMemory, RunEnds};
 ghost use Rattle.commands.specs.Faults.{AreFaultsCounted};
 ghost use Rattle.commands.specs.Outside.{outside};
 ghost use Rattle.commands.specs.Records.{IsEndedRecordIn, IsRecordBy, IsRecordIn, done_status, result_of, run_order, summary_in};
-ghost use Rattle.command_words.specs.Words.{run_names_view};
+ghost use Rattle.command_words.specs.Words.{inputs_view, run_names_view};
 
 use crate::delivery::deliver;
 use crate::finish::Finish;
@@ -130,6 +131,7 @@ pub fn conclude<F: Folder, K: Sink>(
     ensures no_batch { result.batch ≡ [] }
     ensures counted { AreFaultsCounted
         (outside (F.modelled folder.old) (K.modelled out.old)) (outside (F.modelled folder.new) (K.modelled out.new)) result.status }
+    ensures called { IsSome (F.modelled folder.new).calls → ConcludesCalls (F.modelled folder.old).calls (F.modelled folder.new).calls result.status result.result }
 {
     match rec.ending {
         Ending::Done => {}
@@ -185,6 +187,9 @@ pub fn run<F: Folder, K: Sink, G: Gate + Sync, W: Threads + Wait + Sync>(
     ensures no_batch { result.batch ≡ [] }
     ensures counted { AreFaultsCounted
         (outside (F.modelled folder.old) (K.modelled out.old)) (outside (F.modelled folder.new) (K.modelled out.new)) result.status }
+    ensures called { KeepsRunDiary (input_calls (inputs_view files.now.inputs))
+        (outside (F.modelled folder.old) (K.modelled out.old)) (outside (F.modelled folder.new) (K.modelled out.new))
+        (F.modelled folder.old).calls (F.modelled folder.new).calls result.status result.result }
 {
     let inputs = match read_inputs(alloc, folder, &files.inputs) {
         Ok(inputs) => inputs,

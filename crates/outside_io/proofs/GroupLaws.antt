@@ -1,6 +1,6 @@
 -- Laws of several files that are stored in order. For the two `store_all`.
 use Rattle.std.proofs.Common.{arith, ◌≡◌, ◌≢◌, ◌<◌, ◌≤◌, ◌+◌, ◌∙◌, ℕ, false, None, List, [], ◌∷◌, ◌++◌, ap, get_or, length, map, refl, subst, sym, take}
-use Rattle.std.specs.Prelude.{slice_get, option_map, Some}
+use Rattle.std.specs.Prelude.{option_map, Some}
 use Rattle.std.proofs.lemmas.List.{take-map, take_more}
 use Rattle.std.proofs.lemmas.Option.{slice_get-get_or, slice_get-map}
 use Rattle.outside_io.specs.Faults.{HasRisen}
@@ -14,7 +14,7 @@ use Rattle.outside_io.specs.declared.folder.StoreErr.TheVariants.{Failed}
 
 -- what is known of a folder in memory
 abbrev pub memory_told : FolderView → FolderModel
-memory_told s = record { files = Some s.files; faults = s.faults; steady = s.steady }
+memory_told s = record { files = Some s.files; faults = s.faults; steady = s.steady; calls = s.calls }
 
 -- one more file after those that were stored
 pub and-then : (xs : List StoredFile) (x : StoredFile) (old between new : FolderModel) → AreAllStored xs old between → StoresOne x between new → AreAllStored (xs ++ x ∷ []) old new
@@ -52,12 +52,12 @@ stops-here files i any why old between new within all fails = record {
 
 -- what is known of a folder that is not modelled
 abbrev pub untold : ℕ → FolderModel
-untold faults = record { files = None; faults = faults; steady = false }
+untold faults = record { files = None; faults = faults; steady = false; calls = None }
 
 -- if nothing fails, any files may count as stored
 pub all-untold : (xs : List StoredFile) (faults : ℕ) → AreAllStored xs (untold faults) (untold faults)
 all-untold [] faults = refl
-all-untold (x ∷ xs) faults = (untold faults, record { stores = tt; faults = refl; steady = refl }, all-untold xs faults)
+all-untold (x ∷ xs) faults = (untold faults, record { stores = tt; faults = refl; steady = refl; called = λ kept. refl }, all-untold xs faults)
 
 -- if a file is not stored, the count of faults agrees with the reason
 pub stops-untold : (files : List NewFile) (place : ℕ) (why : StoreErr) (old new : ℕ) → place < length files → old ≤ new → (why ≡ Failed → HasRisen old new) → (why ≢ Failed → new ≡ old)
@@ -68,4 +68,4 @@ stops-untold [] place why old new within counted failed faults_unchanged = absur
     none-within n h = omega (arith, h)
 stops-untold (x ∷ xs) place why old new within counted failed faults_unchanged =
     stops-here (x ∷ xs) place x why (untold old) (untold old) (untold new) within (all-untold (take place (map stored_file (x ∷ xs))) old)
-    (record { stores = tt; counted = counted; failed = failed; faults_unchanged = faults_unchanged; steady = refl; steady_never_fails = λ steady e. cc steady })
+    (record { stores = tt; counted = counted; failed = failed; faults_unchanged = faults_unchanged; steady = refl; steady_never_fails = λ steady e. cc steady; called = λ kept. refl })

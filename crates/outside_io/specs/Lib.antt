@@ -1,4 +1,5 @@
 pub mod Files
+pub mod Diary
 pub mod Models
 pub mod Faults
 pub mod Loads

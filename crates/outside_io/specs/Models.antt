@@ -1,5 +1,6 @@
 -- What contracts know of any folder and any sink.
 use Rattle.std.specs.Prelude.{ℕ, Bool, List, Option}
+use Rattle.outside_io.specs.Diary.{FolderCall}
 use Rattle.outside_io.specs.Files.{StoredFile}
 
 -- What is known of a folder.
@@ -11,6 +12,8 @@ pub record FolderModel : Type 0 where
   -- Whether the outside never fails. Then stores and pieces do not return `Failed`, and loads and `begin` do so only for a name
   -- without a file.
   pub steady : Bool
+  -- The diary, if the folder keeps one: the calls made so far, the latest first.
+  pub calls : Option (List FolderCall)
 
 -- What is known of a sink.
 pub record SinkModel : Type 0 where

@@ -3,6 +3,7 @@ use Rattle.std.specs.Prelude.{◌≡◌, ◌≢◌, ◌≤◌, ℕ, true, List, 
 use Rattle.outside_io.specs.declared.folder.NewFile.{NewFile}
 use Rattle.outside_io.specs.declared.folder.StoreErr.{StoreErr}
 use Rattle.outside_io.specs.declared.folder.StoreErr.TheVariants.{Failed}
+use Rattle.outside_io.specs.Diary.{Adds, store_call}
 use Rattle.outside_io.specs.Faults.{HasRisen}
 use Rattle.outside_io.specs.Files.{StoredFile}
 use Rattle.outside_io.specs.Loads.{Stores}
@@ -17,6 +18,7 @@ pub record StoresOne (x : StoredFile) (old new : FolderModel) : Type 0 where
   pub stores : Stores old.files new.files x.name x.bytes (Ok tt)
   pub faults : new.faults ≡ old.faults
   pub steady : new.steady ≡ old.steady
+  pub called : Adds (store_call x.name (Ok tt)) old.calls new.calls
 
 -- Whether each of these files was stored, in order, between these two states of the folder.
 abbrev pub AreAllStored : List StoredFile → FolderModel → FolderModel → Type 0
@@ -31,6 +33,7 @@ pub record FailsOne (x : StoredFile) (why : StoreErr) (old new : FolderModel) : 
   pub faults_unchanged : why ≢ Failed → new.faults ≡ old.faults
   pub steady : new.steady ≡ old.steady
   pub steady_never_fails : old.steady ≡ true → why ≢ Failed
+  pub called : Adds (store_call x.name (Err why)) old.calls new.calls
 
 -- Whether the files before this place were stored, in order, and the file at this place was not, for this reason.
 pub record StopsAt (xs : List StoredFile) (place : ℕ) (why : StoreErr) (old new : FolderModel) : Type 0 where

@@ -1,5 +1,7 @@
 //! The files that a program reads and stores: the trait `Folder`, and why a call of it fails.
 ghost use Rattle.std.specs.Prelude.{◌≡◌, ◌≢◌, ◌<◌, ◌≤◌, ◌+◌, ℕ, [], List, Option, true, Some, IfErr, OnErr, OnOk, length, map};
+ghost use Rattle.outside_io.specs.declared.diary.CallKind.TheVariants.{Load, Begin};
+ghost use Rattle.outside_io.specs.Diary.{Adds, AddsPiece, load_call, store_call};
 ghost use Rattle.outside_io.specs.Faults.{HasRisen};
 ghost use Rattle.outside_io.specs.StoreAll.{AreAllStored, StopsAt, stored_file};
 ghost use Rattle.outside_io.specs.Loads.{FindsExisting, Loads, Stores};
@@ -76,7 +78,7 @@ impl Unstored {
 /// Files by name. One file at a time may be read in pieces: `begin` opens it, and each `piece` returns its next bytes. Loads and
 /// stores do not disturb it.
 pub trait Folder {
-    /// The files of a modelled folder, the count of faults, and whether the outside never fails.
+    /// The files of a modelled folder, the count of faults, whether the outside never fails, and the diary if one is kept.
     ghost modelled: { Self → FolderModel };
 
     /// The bytes of the open file that are still to be read, in a modelled folder. If no file is open, no bytes are left in any
@@ -102,7 +104,8 @@ pub trait Folder {
         ensures come { come self.new ≡ come self.old }
         ensures most { most self.new ≡ most self.old }
         ensures steady { (modelled self.new).steady ≡ (modelled self.old).steady }
-        ensures steady_never_fails { FindsExisting (modelled self.old) name.now result };
+        ensures steady_never_fails { FindsExisting (modelled self.old) name.now result }
+        ensures called { Adds (load_call Load name.now result) (modelled self.old).calls (modelled self.new).calls };
 
     /// Replaces the contents of the file of this name by these bytes, or makes the file. After an error that file may hold
     /// anything, or be gone; other files are unchanged.
@@ -115,7 +118,8 @@ pub trait Folder {
         ensures come { come self.new ≡ come self.old }
         ensures most { most self.new ≡ most self.old }
         ensures steady { (modelled self.new).steady ≡ (modelled self.old).steady }
-        ensures steady_never_fails { (modelled self.old).steady ≡ true → result ≢ Err StoreErr.Failed };
+        ensures steady_never_fails { (modelled self.old).steady ≡ true → result ≢ Err StoreErr.Failed }
+        ensures called { Adds (store_call name.now result) (modelled self.old).calls (modelled self.new).calls };
 
     /// Stores these files in order, each as `store` does, up to the first that cannot be stored. If the folder is not modelled, no
     /// contract says when each file appears.
@@ -139,7 +143,8 @@ pub trait Folder {
         ensures failed { result ≡ Err LoadErr.Failed → HasRisen (modelled self.old).faults (modelled self.new).faults }
         ensures faults_unchanged { result ≢ Err LoadErr.Failed → (modelled self.new).faults ≡ (modelled self.old).faults }
         ensures steady { (modelled self.new).steady ≡ (modelled self.old).steady }
-        ensures steady_never_fails { FindsExisting (modelled self.old) name.now result };
+        ensures steady_never_fails { FindsExisting (modelled self.old) name.now result }
+        ensures called { Adds (load_call Begin name.now result) (modelled self.old).calls (modelled self.new).calls };
 
     /// Replaces the contents of `into` by the next bytes of the open file. No bytes mean the end of the file, or that no file is
     /// open. After an error there are no bytes, and no file is open.
@@ -160,5 +165,6 @@ pub trait Folder {
         ensures failed { result ≡ Err LoadErr.Failed → HasRisen (modelled self.old).faults (modelled self.new).faults }
         ensures faults_unchanged { result ≢ Err LoadErr.Failed → (modelled self.new).faults ≡ (modelled self.old).faults }
         ensures steady { (modelled self.new).steady ≡ (modelled self.old).steady }
-        ensures steady_never_fails { (modelled self.old).steady ≡ true → result ≢ Err LoadErr.Failed };
+        ensures steady_never_fails { (modelled self.old).steady ≡ true → result ≢ Err LoadErr.Failed }
+        ensures called { AddsPiece result (modelled self.old).calls (modelled self.new).calls };
 }

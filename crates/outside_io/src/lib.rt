@@ -23,10 +23,11 @@
 //! - `real`: the folder and sink of the operating system.
 //! - `atomic_store`, `writing`: how `real` stores files and writes bytes.
 //! - `memory_folder`, `memory_sink`: the folder and sink in memory.
-//! - `piece_file`, `fault_plan`: their parts.
+//! - `piece_file`, `fault_plan`, `diary`: their parts.
 #![tactic(auto)]
 
 mod atomic_store;
+pub mod diary;
 mod fault_plan;
 pub mod folder;
 pub mod memory_folder;

@@ -2,6 +2,7 @@
 ghost use Rattle.std.specs.Prelude.{◌≡◌, ◌<◌, ◌↔◌, [], length, option_map, None, IsTrue, IfOk, OnOk, OnErr, IfSome, IfNone};
 ghost use Rattle.outside_io.specs.Files.{StoredFile, bytes_of, IsPlace, with_file};
 
+use crate::diary::{CallKind, Diary, MemoryCall};
 use crate::fault_plan::FaultPlan;
 use crate::folder::{Folder, LoadErr, NewFile, StoreErr, Unstored};
 use crate::piece_file::PieceFile;
@@ -48,6 +49,7 @@ pub struct MemoryFolder {
     files: Vec<MemoryFile>,
     begun: PieceFile,
     plan: FaultPlan,
+    diary: Diary,
 }
 
 impl Model for MemoryFolder {
@@ -56,12 +58,13 @@ impl Model for MemoryFolder {
 
     ghost Value = { FolderView };
 
-    ghost view = { λ a. record { files = a.files.items; begun = a.begun; faults = a.plan.faults; steady = length a.plan.failing.items == 0 } };
+    ghost view = { λ a. record { files = a.files.items; begun = a.begun; faults = a.plan.faults; steady = length a.plan.failing.items == 0; calls = a.diary } };
 }
 
 impl MemoryFolder {
     /// Returns a folder of these files, none of them open. Calls of `load`, `store`, `begin` and `piece` are counted together from
-    /// 1; those whose numbers are in `failing` fail. If several files have the same name, only the first is visible.
+    /// 1; those whose numbers are in `failing` fail. If several files have the same name, only the first is visible. The folder
+    /// keeps no diary.
     pub fn new(files: Vec<MemoryFile>, failing: Vec<u64>) -> MemoryFolder
         ensures files { result.files ≡ files.items }
         ensures left { result.begun.left ≡ [] }
@@ -69,12 +72,41 @@ impl MemoryFolder {
         ensures most { result.begun.most ≡ 0 }
         ensures faults { result.faults ≡ 0 }
         ensures steady { IsTrue result.steady ↔ (failing.items ≡ []) }
+        ensures calls { result.calls ≡ None }
     {
         MemoryFolder {
             begun: PieceFile::none(*files.allocator()),
             files,
             plan: FaultPlan::new(failing),
+            diary: Diary::none(),
         }
+    }
+
+    /// Returns the folder that `new` returns, with a diary in which no call is entered yet. Each entry takes memory, and the diary
+    /// is lost if that runs out.
+    pub fn with_diary(files: Vec<MemoryFile>, failing: Vec<u64>) -> MemoryFolder
+        ensures files { result.files ≡ files.items }
+        ensures left { result.begun.left ≡ [] }
+        ensures come { result.begun.come ≡ 0 }
+        ensures most { result.begun.most ≡ 0 }
+        ensures faults { result.faults ≡ 0 }
+        ensures steady { IsTrue result.steady ↔ (failing.items ≡ []) }
+        ensures calls { result.calls ≡ Some [] }
+    {
+        let alloc = *files.allocator();
+        MemoryFolder {
+            begun: PieceFile::none(alloc),
+            files,
+            plan: FaultPlan::new(failing),
+            diary: Diary::empty(alloc),
+        }
+    }
+
+    /// Returns the calls so far, the latest first, if the folder keeps a diary.
+    pub fn calls(&self) -> Option<&[MemoryCall]>
+        ensures { option_map (λ calls. calls.now) result ≡ self.now.calls }
+    {
+        self.diary.calls()
     }
 
     /// Returns the bytes of the file of this name, if there is one.
@@ -123,7 +155,7 @@ fn put(files: &mut Vec<MemoryFile>, name: &str, bytes: &[u8]) -> Result<(), NoMe
 impl Folder for MemoryFolder {
     ghost use Rattle.std.specs.Prelude.{Some};
 
-    ghost modelled = { λ s. record { files = Some s.files; faults = s.faults; steady = s.steady } };
+    ghost modelled = { λ s. record { files = Some s.files; faults = s.faults; steady = s.steady; calls = s.calls } };
 
     ghost left = { λ s. Some s.begun.left };
 
@@ -134,25 +166,37 @@ impl Folder for MemoryFolder {
     fn load(&mut self, name: &str, limit: u64, into: &mut Vec<u8>) -> Result<(), LoadErr> {
         into.clear();
         if self.plan.next_fails() {
-            return Err(LoadErr::Failed);
+            return self
+                .diary
+                .loaded(CallKind::Load, name, Err(LoadErr::Failed));
         }
-        let Some(bytes) = self.bytes(name) else {
+        let Some(bytes) = bytes_under(&self.files, name) else {
             self.plan.count_fault();
-            return Err(LoadErr::Failed);
+            return self
+                .diary
+                .loaded(CallKind::Load, name, Err(LoadErr::Failed));
         };
         if bytes.len() as u64 > limit {
-            return Err(LoadErr::TooLong);
+            return self
+                .diary
+                .loaded(CallKind::Load, name, Err(LoadErr::TooLong));
         }
-        into.extend_from_slice(bytes)?;
-        Ok(())
+        if into.extend_from_slice(bytes).is_err() {
+            return self
+                .diary
+                .loaded(CallKind::Load, name, Err(LoadErr::NoMemory));
+        }
+        self.diary.loaded(CallKind::Load, name, Ok(()))
     }
 
     fn store(&mut self, name: &str, bytes: &[u8]) -> Result<(), StoreErr> {
         if self.plan.next_fails() {
-            return Err(StoreErr::Failed);
+            return self.diary.stored(name, Err(StoreErr::Failed));
         }
-        put(&mut self.files, name, bytes)?;
-        Ok(())
+        match put(&mut self.files, name, bytes) {
+            Ok(()) => self.diary.stored(name, Ok(())),
+            Err(_) => self.diary.stored(name, Err(StoreErr::NoMemory)),
+        }
     }
 
     fn store_all(&mut self, files: &[NewFile<'_>]) -> Result<(), Unstored> {
@@ -167,26 +211,38 @@ impl Folder for MemoryFolder {
     fn begin(&mut self, name: &str, limit: u64) -> Result<(), LoadErr> {
         self.begun.limit_to(limit);
         if self.plan.next_fails() {
-            return Err(LoadErr::Failed);
+            return self
+                .diary
+                .loaded(CallKind::Begin, name, Err(LoadErr::Failed));
         }
         let Some(bytes) = bytes_under(&self.files, name) else {
             self.plan.count_fault();
-            return Err(LoadErr::Failed);
+            return self
+                .diary
+                .loaded(CallKind::Begin, name, Err(LoadErr::Failed));
         };
         if bytes.len() as u64 > limit {
-            return Err(LoadErr::TooLong);
+            return self
+                .diary
+                .loaded(CallKind::Begin, name, Err(LoadErr::TooLong));
         }
-        self.begun.fill(bytes)?;
-        Ok(())
+        if self.begun.fill(bytes).is_err() {
+            return self
+                .diary
+                .loaded(CallKind::Begin, name, Err(LoadErr::NoMemory));
+        }
+        self.diary.loaded(CallKind::Begin, name, Ok(()))
     }
 
     fn piece(&mut self, into: &mut Vec<u8>) -> Result<(), LoadErr> {
         into.clear();
         if self.plan.next_fails() {
             self.begun.end();
-            return Err(LoadErr::Failed);
+            return self.diary.not_read(LoadErr::Failed);
         }
-        self.begun.take_piece(into)?;
+        if self.begun.take_piece(into).is_err() {
+            return self.diary.not_read(LoadErr::NoMemory);
+        }
         Ok(())
     }
 }

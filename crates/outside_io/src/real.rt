@@ -136,7 +136,7 @@ fn is_longer<F: OpenFile>(file: &F, limit: u64) -> bool {
 impl<'r, R: Files> Folder for RealFolder<'r, R> {
     ghost use Rattle.std.specs.Prelude.{None, Some, false, if◌then◌else◌};
 
-    ghost modelled = { λ s. record { files = None; faults = s.faults; steady = false } };
+    ghost modelled = { λ s. record { files = None; faults = s.faults; steady = false; calls = None } };
 
     ghost left = { λ s. if s.begun then None else Some [] };
 

@@ -1,5 +1,6 @@
 //! Both folders and both sinks, each used through its trait.
 
+use outside_io::diary::{CallEnd, CallKind};
 use outside_io::folder::{Folder, LoadErr, NewFile, PIECE_SIZE, StoreErr, Unstored};
 use outside_io::memory_folder::{MemoryFile, MemoryFolder};
 use outside_io::memory_sink::MemorySink;
@@ -70,6 +71,47 @@ fn a_store_keeps_the_other_files(rt: HostRuntime) -> Result<(), Fail> {
     assert!(rt; is_held(&folder, "rows", b""));
     assert!(rt; is_held(&folder, "answers", b"yes"));
     assert!(rt; !is_held(&folder, "absent", b""));
+    Ok(())
+}
+
+#[test]
+fn a_diary_has_each_call_and_how_it_ended(rt: HostRuntime) -> Result<(), Fail> {
+    let alloc = rt.alloc();
+    let mut files = Vec::new(alloc);
+    files.push(MemoryFile::new(alloc, "domains", b"abc")?)?;
+    let mut folder = MemoryFolder::with_diary(files, [6].to_vec(alloc)?);
+    let mut into = Vec::new(alloc);
+    assert_eq!(rt; folder.load("domains", 3, &mut into), Ok(()));
+    assert_eq!(rt; folder.load("absent", 3, &mut into), Err(LoadErr::Failed));
+    assert_eq!(rt; folder.begin("domains", 2), Err(LoadErr::TooLong));
+    assert_eq!(rt; folder.begin("domains", 3), Ok(()));
+    // A piece that is returned has no entry.
+    assert_eq!(rt; folder.piece(&mut into), Ok(()));
+    assert_eq!(rt; folder.piece(&mut into), Err(LoadErr::Failed));
+    assert_eq!(rt; folder.store("answers", b"yes"), Ok(()));
+    const LATEST_FIRST: &[(CallKind, &str, CallEnd)] = &[
+        (CallKind::Store, "answers", CallEnd::Done),
+        (CallKind::Piece, "", CallEnd::Failed),
+        (CallKind::Begin, "domains", CallEnd::Done),
+        (CallKind::Begin, "domains", CallEnd::TooLong),
+        (CallKind::Load, "absent", CallEnd::Failed),
+        (CallKind::Load, "domains", CallEnd::Done),
+    ];
+    let Some(calls) = folder.calls() else {
+        return Err(Fail::new("the diary is lost"));
+    };
+    assert_eq!(rt; calls.len(), LATEST_FIRST.len());
+    for (call, &(kind, name, end)) in calls.iter().zip(LATEST_FIRST) {
+        assert_eq!(rt; (call.kind, call.name.as_str(), call.end), (kind, name, end));
+    }
+    Ok(())
+}
+
+#[test]
+fn a_new_folder_keeps_no_diary(rt: HostRuntime) -> Result<(), Fail> {
+    let mut folder = folder_of_two(rt.alloc(), &[])?;
+    assert_eq!(rt; folder.store("answers", b"yes"), Ok(()));
+    assert!(rt; folder.calls().is_none());
     Ok(())
 }
 

@@ -8,6 +8,8 @@ ghost use Rattle.outside_io.specs.Files.{StoredFile};
 ghost use Rattle.constraint_files.specs.Domains.{domains_fed, domains_of};
 ghost use Rattle.constraint_files.specs.PairTable.{pairs_fed, pairs_of};
 ghost use Rattle.pack_defs.specs.declared.domain.Domain.{Domain};
+ghost use Rattle.outside_io.specs.declared.diary.CallEnd.TheVariants.{Done};
+ghost use Rattle.commands.specs.Calls.{CallsOne, CallsPieces, begun_as, stopped_by};
 ghost use Rattle.commands.specs.Inputs.{Agrees, CountsFault, and_then, file_of, refused_by, rows_read};
 ghost use Rattle.commands.specs.Constraints.{IsBegun, IsFed, IsHandedOut};
 
@@ -37,6 +39,7 @@ fn begin<F: Folder>(folder: &mut F, name: &str, input: Input) -> Result<(), Stop
     ensures files { (F.modelled folder.new).files ≡ (F.modelled folder.old).files }
     ensures steady { (F.modelled folder.new).steady ≡ (F.modelled folder.old).steady }
     ensures counted { CountsFault (F.modelled folder.old).faults (F.modelled folder.new).faults result }
+    ensures called { CallsOne (begun_as Done name.now) input (F.modelled folder.old).calls (F.modelled folder.new).calls (stopped_by result) }
 {
     match folder.begin(name, FILE_LIMIT) {
         Ok(()) => Ok(()),
@@ -56,6 +59,7 @@ fn next_piece<F: Folder>(folder: &mut F, input: Input, piece: &mut Vec<u8>) -> R
     ensures files { (F.modelled folder.new).files ≡ (F.modelled folder.old).files }
     ensures steady { (F.modelled folder.new).steady ≡ (F.modelled folder.old).steady }
     ensures counted { CountsFault (F.modelled folder.old).faults (F.modelled folder.new).faults result }
+    ensures called { CallsPieces input (F.modelled folder.old).calls (F.modelled folder.new).calls (stopped_by result) }
 {
     match folder.piece(piece) {
         Ok(()) => Ok(()),
@@ -76,6 +80,7 @@ fn feed_domains<F: Folder>(
     ensures files { (F.modelled folder.new).files ≡ (F.modelled folder.old).files }
     ensures steady { (F.modelled folder.new).steady ≡ (F.modelled folder.old).steady }
     ensures counted { CountsFault (F.modelled folder.old).faults (F.modelled folder.new).faults result }
+    ensures called { CallsPieces Input.Domains (F.modelled folder.old).calls (F.modelled folder.new).calls (stopped_by result) }
 {
     let mut reader = reader;
     let mut piece = Vec::new(alloc);
@@ -109,6 +114,7 @@ pub(crate) fn domains_from<F: Folder>(
     ensures files { (F.modelled folder.new).files ≡ (F.modelled folder.old).files }
     ensures steady { (F.modelled folder.new).steady ≡ (F.modelled folder.old).steady }
     ensures counted { CountsFault (F.modelled folder.old).faults (F.modelled folder.new).faults result }
+    ensures called { CallsOne (begun_as Done name.now) Input.Domains (F.modelled folder.old).calls (F.modelled folder.new).calls (stopped_by result) }
 {
     let Ok(reader) = DomainReader::make(alloc) else {
         return Err(Stop::NoMemory);
@@ -133,6 +139,7 @@ fn feed_pairs<'a, F: Folder>(
     ensures files { (F.modelled folder.new).files ≡ (F.modelled folder.old).files }
     ensures steady { (F.modelled folder.new).steady ≡ (F.modelled folder.old).steady }
     ensures counted { CountsFault (F.modelled folder.old).faults (F.modelled folder.new).faults result }
+    ensures called { CallsPieces Input.Rows (F.modelled folder.old).calls (F.modelled folder.new).calls (stopped_by result) }
 {
     let mut reader = reader;
     let mut piece = Vec::new(alloc);
@@ -167,6 +174,7 @@ pub(crate) fn pairs_from<F: Folder>(
     ensures files { (F.modelled folder.new).files ≡ (F.modelled folder.old).files }
     ensures steady { (F.modelled folder.new).steady ≡ (F.modelled folder.old).steady }
     ensures counted { CountsFault (F.modelled folder.old).faults (F.modelled folder.new).faults result }
+    ensures called { CallsOne (begun_as Done name.now) Input.Rows (F.modelled folder.old).calls (F.modelled folder.new).calls (stopped_by result) }
 {
     let Ok(reader) = PairReader::make(alloc, domains) else {
         return Err(Stop::NoMemory);

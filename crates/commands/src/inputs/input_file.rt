@@ -5,6 +5,8 @@
 ghost use Rattle.std.specs.Prelude.{◌≡◌, List, Some};
 ghost use Rattle.outside_io.specs.Files.{StoredFile};
 ghost use Rattle.commands.specs.declared.inputs.input_file.Stop.TheVariants.{NoMemory};
+ghost use Rattle.outside_io.specs.declared.diary.CallEnd.TheVariants.{Done};
+ghost use Rattle.commands.specs.Calls.{CallsOne, loaded_as, stopped_by};
 ghost use Rattle.commands.specs.Inputs.{Agrees, CountsFault, file_of, stop_of};
 
 use crate::messages::refusal::Refusal;
@@ -60,6 +62,7 @@ pub(crate) fn load<F: Folder>(
     ensures files { (F.modelled folder.new).files ≡ (F.modelled folder.old).files }
     ensures steady { (F.modelled folder.new).steady ≡ (F.modelled folder.old).steady }
     ensures counted { CountsFault (F.modelled folder.old).faults (F.modelled folder.new).faults result }
+    ensures called { CallsOne (loaded_as Done name.now) input (F.modelled folder.old).calls (F.modelled folder.new).calls (stopped_by result) }
 {
     let mut bytes = Vec::new(alloc);
     match folder.load(name, FILE_LIMIT, &mut bytes) {

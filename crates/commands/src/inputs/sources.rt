@@ -7,6 +7,8 @@ ghost use Rattle.outside_io.specs.Files.{StoredFile};
 ghost use Rattle.pack_defs.specs.Book.{stations_of};
 ghost use Rattle.pack_defs.specs.Scenario.{IsWithinLimits, facilities};
 ghost use Rattle.scenario_json.specs.ScenarioOf.{scenario_of};
+ghost use Rattle.outside_io.specs.declared.diary.CallEnd.TheVariants.{Done};
+ghost use Rattle.commands.specs.Calls.{CallsAll, CallsOne, loaded_as, source_calls, stopped_by};
 ghost use Rattle.commands.specs.Inputs.{Agrees, CountsFault, IsBookOf, and_then, file_of, scenario_read, sources_of};
 ghost use Rattle.command_words.specs.Words.{inputs_view};
 
@@ -44,6 +46,7 @@ pub(crate) fn scenario_from<F: Folder>(
     ensures files { (F.modelled folder.new).files ≡ (F.modelled folder.old).files }
     ensures steady { (F.modelled folder.new).steady ≡ (F.modelled folder.old).steady }
     ensures counted { CountsFault (F.modelled folder.old).faults (F.modelled folder.new).faults result }
+    ensures called { CallsOne (loaded_as Done name.now) Input.Scenario (F.modelled folder.old).calls (F.modelled folder.new).calls (stopped_by result) }
 {
     let bytes = load(alloc, folder, name, Input::Scenario)?;
     match read_scenario(alloc, &bytes) {
@@ -71,6 +74,7 @@ pub fn read_sources<F: Folder>(
     ensures files { (F.modelled folder.new).files ≡ (F.modelled folder.old).files }
     ensures steady { (F.modelled folder.new).steady ≡ (F.modelled folder.old).steady }
     ensures counted { CountsFault (F.modelled folder.old).faults (F.modelled folder.new).faults result }
+    ensures called { CallsAll (inputs_view names.now) (source_calls (inputs_view names.now)) (F.modelled folder.old).calls (F.modelled folder.new).calls (stopped_by result) }
 {
     let domains = domains_from(alloc, folder, names.domains)?;
     let pairs = pairs_from(alloc, folder, names.rows, &domains)?;

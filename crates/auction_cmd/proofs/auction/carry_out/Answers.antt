@@ -1,6 +1,9 @@
 -- How each command ends, and what the words say of it.
 use Rattle.command_words.specs.Words.{import_view, make_view, resume_view}
 use Rattle.command_words.proofs.NumberLemmas.{command-sized, import-valued, resume-valued}
+use Rattle.commands.specs.Calls.{input_calls}
+use Rattle.command_words.specs.Words.{inputs_view}
+use Rattle.auction_cmd.proofs.DiaryLemmas.{run-diary}
 use Rattle.auction_cmd.proofs.auction.carry_out.Goals as goal
 
 pub make-requires-clause-some : goal.make-requires-clause-some
@@ -55,3 +58,33 @@ returns-in-Import-clause-ends g c =
       c.import.ensures.ends,
       record { below = c.import.ensures.no_other; batch = c.import.ensures.no_batch },
     )
+
+pub returns-in-Run-clause-called : goal.returns-in-Run-clause-called
+returns-in-Run-clause-called g c = rw c.in-Run.is (λ kept. run-diary (input_calls (inputs_view c.in-Run.files.inputs)) _ _ _ _ _ _ (c.run.ensures.called kept))
+
+pub returns-in-Check-clause-called : goal.returns-in-Check-clause-called
+returns-in-Check-clause-called g c = rw c.in-Check.is tt
+
+pub returns-in-Verify-clause-called : goal.returns-in-Verify-clause-called
+returns-in-Verify-clause-called g c = rw c.in-Verify.is tt
+
+pub returns-in-Show-clause-called : goal.returns-in-Show-clause-called
+returns-in-Show-clause-called g c = rw c.in-Show.is tt
+
+pub returns-in-Resume-clause-called : goal.returns-in-Resume-clause-called
+returns-in-Resume-clause-called g c = rw c.in-Resume.is tt
+
+pub returns-in-Seek-clause-called : goal.returns-in-Seek-clause-called
+returns-in-Seek-clause-called g c = rw c.in-Seek.is tt
+
+pub returns-in-Batch-clause-called : goal.returns-in-Batch-clause-called
+returns-in-Batch-clause-called g c = rw c.in-Batch.is tt
+
+pub returns-in-Make-clause-called : goal.returns-in-Make-clause-called
+returns-in-Make-clause-called g c = rw c.in-Make.is tt
+
+pub returns-in-Export-clause-called : goal.returns-in-Export-clause-called
+returns-in-Export-clause-called g c = rw c.in-Export.is tt
+
+pub returns-in-Import-clause-called : goal.returns-in-Import-clause-called
+returns-in-Import-clause-called g c = rw c.in-Import.is tt

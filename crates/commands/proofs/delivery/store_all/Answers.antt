@@ -5,6 +5,7 @@ use Rattle.outside_io.specs.StoreAll.{stored_file}
 use Rattle.outside_io.specs.declared.folder.NewFile.{NewFile}
 use Rattle.commands.specs.Delivery.{ExplainsStore}
 use Rattle.commands.proofs.DeliveryLemmas.{all-stored, all-uncounted, stops-counted, stops-stored}
+use Rattle.commands.proofs.CallLemmas.{asked-stop, asked-texts}
 use Rattle.commands.proofs.delivery.store_all.Goals as goal
 
 pub returns-in-Ok-clause-stored : goal.returns-in-Ok-clause-stored
@@ -24,3 +25,9 @@ returns-in-Err-clause-stopped g c =
     let why = c.in-Err.unstored.why in
     stops-stored c.args.texts.now c.in-Err.unstored.at why _ _ sink said c.print_unstored.result c.in-Err.ensures.stopped
     (λ y there. subst (λ (z : NewFile). ExplainsStore z.name.now why sink.held said.held sink.faults said.faults c.print_unstored.result) (get_or_from_slice_get c.args.texts.now c.in-Err.unstored.at y _ there) c.print_unstored.ensures)
+
+pub returns-in-Ok-clause-asked : goal.returns-in-Ok-clause-asked
+returns-in-Ok-clause-asked g c = λ some kept. asked-texts c.args.texts.now _ _ some c.in-Ok.ensures.stored kept
+
+pub returns-in-Err-clause-asked : goal.returns-in-Err-clause-asked
+returns-in-Err-clause-asked g c = λ some kept. asked-stop (map stored_file c.args.texts.now) c.in-Err.unstored.at c.in-Err.unstored.why _ _ c.in-Err.ensures.stopped kept

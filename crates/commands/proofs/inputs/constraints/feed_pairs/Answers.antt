@@ -7,6 +7,7 @@ use Rattle.commands.specs.Inputs.{refused_by, rows_read}
 use Rattle.commands.specs.Constraints.{IsFed}
 use Rattle.command_words.specs.declared.run_words.Input.TheVariants.{Rows}
 use Rattle.commands.proofs.FeedLemmas.{feed-step, feed-end, feed-fails, feed-refused}
+use Rattle.commands.proofs.CallLemmas.{pieces-fail, rows-stop}
 use Rattle.commands.proofs.inputs.constraints.feed_pairs.Goals as goal
 
 pub returns-in_err-next_piece-clause-modelled : goal.returns-in_err-next_piece-clause-modelled
@@ -28,6 +29,7 @@ loop-piece-preserved g c = record {
   files = c.next_piece.ensures.files ∙ c.loop-piece.invariant.files;
   steady = c.next_piece.ensures.steady ∙ c.loop-piece.invariant.steady;
   faults_unchanged = c.in_ok-next_piece.ensures.counted.rises ∙ c.loop-piece.invariant.faults_unchanged;
+  calls = c.in_ok-next_piece.ensures.called ∙ c.loop-piece.invariant.calls;
 }
 
 pub returns-in-Err-clause-modelled : goal.returns-in-Err-clause-modelled
@@ -42,3 +44,12 @@ returns-in-Err-clause-modelled g c =
 pub returns-then-is_empty-clause-ended : goal.returns-then-is_empty-clause-ended
 returns-then-is_empty-clause-ended g c =
     c.in_ok-next_piece.ensures.ended (grind (arith, nat_tests, c.next_piece.new.piece.ok.0, c.is_empty.ensures, c.if-is_empty.true))
+
+pub returns-in_err-next_piece-clause-called : goal.returns-in_err-next_piece-clause-called
+returns-in_err-next_piece-clause-called g c =
+    let p = err_from_is_err_and c.from_residual.result c.from_residual.ensures.1 in
+    rw (p.1, p.2)
+    (pieces-fail Rows c.in_err-next_piece.field-0.0 _ _ _ c.loop-piece.invariant.calls c.in_err-next_piece.ensures.called)
+
+pub returns-in-Err-clause-called : goal.returns-in-Err-clause-called
+returns-in-Err-clause-called g c = rw c.refused_by.ensures (rows-stop Rows c.in-Err.why _ _ (c.in_ok-next_piece.ensures.called ∙ c.loop-piece.invariant.calls))

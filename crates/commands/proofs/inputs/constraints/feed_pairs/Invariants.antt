@@ -10,6 +10,7 @@ invariant-loop-piece g l = record {
   files : (g.F.Folder.modelled l.folder).files ≡ (g.F.Folder.modelled l.fn.folder).files;
   steady : (g.F.Folder.modelled l.folder).steady ≡ (g.F.Folder.modelled l.fn.folder).steady;
   faults_unchanged : (g.F.Folder.modelled l.folder).faults ≡ (g.F.Folder.modelled l.fn.folder).faults;
+  calls : (g.F.Folder.modelled l.folder).calls ≡ (g.F.Folder.modelled l.fn.folder).calls;
 }
 
 abbrev pub decreases-loop-piece : goal.decreases-loop-piece

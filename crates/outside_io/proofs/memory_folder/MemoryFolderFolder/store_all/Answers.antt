@@ -8,7 +8,7 @@ loop-at-preserved c =
     let stored = c.in_default.ensures in
     record {
       stored = stores-more c.args.files.now c.loop-at.at _ _ _ _ c.loop-at-test.true c.loop-at.invariant.stored
-          (record { stores = stored.modelled; faults = stored.faults_unchanged (λ e. cc e); steady = stored.steady });
+          (record { stores = stored.modelled; faults = stored.faults_unchanged (λ e. cc e); steady = stored.steady; called = stored.called });
       left = stored.left ∙ c.loop-at.invariant.left;
       come = stored.come ∙ c.loop-at.invariant.come;
       most = stored.most ∙ c.loop-at.invariant.most;
@@ -26,4 +26,5 @@ returns-in-Err-clause-stopped c =
       faults_unchanged = λ not. unstored.faults_unchanged (λ e. not (cc e));
       steady = unstored.steady;
       steady_never_fails = λ steady e. unstored.steady_never_fails steady (rw e refl);
+      called = unstored.called;
     }))
