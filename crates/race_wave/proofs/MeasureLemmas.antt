@@ -35,7 +35,7 @@ asked : (a b c : Bool) (n : ℕ) → (if a then Some Ended else (if not b then S
 asked true b c n e = cc
 asked false b c n e = refl
 
-on : (sc : Scenario) (state : CoreState) (w number : ℕ) → unjudged_reply sc state w number ≡ None → has_ended state ≡ false
+pub on : (sc : Scenario) (state : CoreState) (w number : ℕ) → unjudged_reply sc state w number ≡ None → has_ended state ≡ false
 on sc state w number t = asked (has_ended state) (number == state.number) (nat_le (length sc.workers) w) state.number t
 
 take-goes : (sc : Scenario) (book : BookView) (state : CoreState) (p : PostingView) → ComesCloserToEnd sc state (take sc book state p).1
@@ -68,7 +68,7 @@ replay-goes sc book (e ∷ es) state new s =
 
 -- If an auction began as another one and continues its history by these entries, they lead from the other's state to
 -- its state.
-rest-replays : (old new : AuctionView) (rest : List EntryView) → beginning_of new ≡ beginning_of old → new.history ≡ old.history ++ rest → Replays old → Replays new → replay_from old.scenario old.book rest old.state ≡ Some new.state
+pub rest-replays : (old new : AuctionView) (rest : List EntryView) → beginning_of new ≡ beginning_of old → new.history ≡ old.history ++ rest → Replays old → Replays new → replay_from old.scenario old.book rest old.state ≡ Some new.state
 rest-replays old new rest begins longer h k =
     let whole : replay_from old.scenario old.book (old.history ++ rest) old.opened ≡ Some new.state =
     ap (λ es. replay_from old.scenario old.book es old.opened) (sym longer) ∙ (ap (λ (b : QuerySessionView). replay_from b.scenario b.book new.history b.state) (sym begins) ∙ k) in

@@ -13,6 +13,7 @@ ghost use Rattle.turn_lock.specs.Passes.{IsPassIdle, known_of, pass_identity};
 ghost use Rattle.turn_lock.specs.Turns.{AllOf, StartsWith, each_new};
 ghost use Rattle.answer_board.specs.Boards.{AreAllOn, beginning_of, raised};
 ghost use Rattle.answer_board.specs.Entries.{numbered};
+ghost use Rattle.race_wave.specs.Run.{KeepsReceipts};
 ghost use Rattle.race_wave.specs.RunnerBuffers.{AreBuffersFor};
 ghost use Rattle.race_wave.specs.Serial.{ComesCloserToEnd};
 
@@ -272,6 +273,7 @@ fn finish_with<R: Racer + Send + Drop, G: Gate + Sync, W: Threads + Wait + Sync>
     requires racers { map R.worker racers.items ≡ auction.scenario.workers }
     ensures backed { IfOk result (IsBacked scenario book.now auction.state.order) }
     ensures continues { IfOk result (ContinuesIn auction.state) }
+    ensures receipts { IfOk result (KeepsReceipts auction.state) }
 {
     // For its clauses alone: what the history replays to.
     auction.keeps_the_rule();
@@ -305,8 +307,9 @@ pub fn run_with<R: Racer + Send + Drop, G: Gate + Sync, W: Threads + Wait + Sync
 
 /// Continues this auction from its current state, between two postings, and returns its record. The racers are the
 /// solvers of the scenario's workers, as in `run_auction`. The auction keeps its order, its start if that was
-/// settled, and its steps so far. No further step is settled by a proof from outside. If the auction has ended, no
-/// query is tried. `scenario` and `book` must be the auction's. Fails only if memory runs out.
+/// settled, its steps so far, and the pending receipts: if the current query ends undecided, they are among its
+/// receipts. No further step is settled by a proof from outside. If the auction has ended, no query is tried.
+/// `scenario` and `book` must be the auction's. Fails only if memory runs out.
 pub fn go_on<G: Gate + Sync, W: Threads + Wait + Sync>(
     rt: &W,
     alloc: Global,
@@ -319,6 +322,7 @@ pub fn go_on<G: Gate + Sync, W: Threads + Wait + Sync>(
     requires book { book.now ≡ auction.book }
     ensures backed { IfOk result (IsBacked scenario book.now auction.state.order) }
     ensures continues { IfOk result (ContinuesIn auction.state) }
+    ensures receipts { IfOk result (KeepsReceipts auction.state) }
 {
     let racers = racers_of(alloc, auction.workers(), book)?;
     finish_with(rt, alloc, auction, scenario, book, racers, gate)
