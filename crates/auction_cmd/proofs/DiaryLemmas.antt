@@ -1,10 +1,10 @@
 -- What the program promises of the diary, from the calls that its parts make.
-use Rattle.std.proofs.Common.{◌≡◌, ℕ, true, inl, List, [], ◌∷◌, Option, Some, None, refl, sym, subst}
+use Rattle.std.proofs.Common.{◌≡◌, ◌⊎◌, ℕ, true, inl, inr, List, [], ◌∷◌, Option, Some, None, refl, sym, subst}
 use Rattle.std.specs.Prelude.{IsSome, IsTrue, is_some}
 use Rattle.std.proofs.lemmas.Bool.{false≢true}
 use Rattle.pack_defs.specs.Lists.{is_in}
 use Rattle.auction_core.specs.declared.record.Record.{Record}
-use Rattle.outside_io.specs.Diary.{FolderCall}
+use Rattle.outside_io.specs.Diary.{FolderCall, with_call}
 use Rattle.command_words.specs.Words.{Command, run, check, verify, show, resume, seek, batch, make, export, import}
 use Rattle.commands.specs.Calls.{Diary, HasAsked, IsReadUpTo, RunCalls, after_calls, input_calls}
 use Rattle.commands.specs.Calls.IsPartRead.{NotAsked}
@@ -19,6 +19,11 @@ use Rattle.auction_cmd.specs.DiaryPromises.{CommandDiary, ProgramDiary, RunDiary
 
 not-both : (found : Option Record) → found ≡ None → IsSome found → ⊥
 not-both found none some = false≢true (subst (λ (o : Option Record). is_some o ≡ true) none some)
+
+-- a reading that went to its end
+all-read : (calls : List FolderCall) (old new : Diary) → new ≡ after_calls calls old → IsReadUpTo calls None old new
+all-read [] old new same = same
+all-read (x ∷ xs) old new same = inr (all-read xs (with_call x old) new same)
 
 module _ (calls : List FolderCall) (before after : Outside) (old new : Diary) (status : ℕ) (found : Option Record) where
   unread : RunCalls calls before after old new status found → status ≡ 3 → (name : List ℕ) × IsReadUpTo calls (Some name) old new × IsLinePrinted before after (unread_line name)
@@ -45,6 +50,12 @@ module _ (calls : List FolderCall) (before after : Outside) (old new : Diary) (s
   stored (AllRead (NoStore at none same)) is = absurd (apart-lists (6 ∷ 7 ∷ 8 ∷ []) (0 ∷ 1 ∷ 4 ∷ []) status refl at is)
   stored (AllRead (Stores at asked)) is = asked
 
+  ended-early : RunCalls calls before after old new status found → status ≡ 8 → IsReadUpTo calls None old new ⊎ HasAsked (after_calls calls old) new
+  ended-early (Unread three none name upto line) is = absurd (off (3 ∷ []) status 8 (one-of (3 ∷ []) status 3 three refl) is refl)
+  ended-early (Stopped at none upto) is = inl upto
+  ended-early (AllRead (NoStore at none same)) is = inl (all-read calls old new same)
+  ended-early (AllRead (Stores at asked)) is = inr asked
+
   starved : RunCalls calls before after old new status found → status ≡ 8 → IsSome found → HasAsked (after_calls calls old) new
   starved (Unread three none name upto line) is some = absurd (not-both found none some)
   starved (Stopped at none upto) is some = absurd (not-both found none some)
@@ -57,6 +68,7 @@ module _ (calls : List FolderCall) (before after : Outside) (old new : Diary) (s
     rejected_in_order = λ is. refused made is;
     only_read = λ is. unfit made is;
     read_and_stored = λ is. stored made is;
+    unfinished = λ is. ended-early made is;
     recorded_if_asked = λ is some. starved made is some;
   }
 

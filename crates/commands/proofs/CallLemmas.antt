@@ -11,7 +11,7 @@ use Rattle.outside_io.specs.Models.{FolderModel}
 use Rattle.outside_io.specs.StoreAll.{AreAllStored, StopsAt, stored_file}
 use Rattle.outside_io.specs.declared.folder.NewFile.{NewFile}
 use Rattle.outside_io.specs.declared.diary.CallKind.{CallKind}
-use Rattle.outside_io.specs.declared.diary.CallKind.TheVariants.{Store}
+use Rattle.outside_io.specs.declared.diary.CallKind.TheVariants.{Begin, Store}
 use Rattle.outside_io.specs.declared.diary.CallEnd.{CallEnd}
 use Rattle.outside_io.specs.declared.diary.CallEnd.TheVariants.{Done, Failed, TooLong, NoMemory as OutOfMemory}
 use Rattle.outside_io.specs.declared.folder.LoadErr.{LoadErr}
@@ -47,12 +47,12 @@ same-kept old new e h = subst (λ (d : Diary). IsSome d) e h
 
 kept-unread : (x : FolderCall) (old new : Diary) → IsUnread x old new → IsSome new → IsSome old
 kept-unread x old new (CallFailed e) h = kept-before _ old new e h
-kept-unread x old new (PieceFailed e) h = kept-before x old (with_call x old) refl (kept-before _ (with_call x old) new e h)
+kept-unread x old new (PieceFailed kind e) h = kept-before x old (with_call x old) refl (kept-before _ (with_call x old) new e h)
 
 kept-part : (x : FolderCall) (old new : Diary) → IsPartRead x old new → IsSome new → IsSome old
 kept-part x old new (NotAsked e) h = same-kept old new e h
 kept-part x old new (Asked end e) h = kept-before _ old new e h
-kept-part x old new (PieceLost end e) h = kept-before x old (with_call x old) refl (kept-before _ (with_call x old) new e h)
+kept-part x old new (PieceLost end kind e) h = kept-before x old (with_call x old) refl (kept-before _ (with_call x old) new e h)
 
 kept-upto : (xs : List FolderCall) (name : Option (List ℕ)) (old new : Diary) → IsReadUpTo xs name old new → IsSome new → IsSome old
 kept-upto [] None old new e h = same-kept old new e h
@@ -88,19 +88,19 @@ piece-stops input LongFile old new h = λ kept. inr (TooLong, h kept)
 piece-stops input NoLoad old new h = λ kept. inr (OutOfMemory, h kept)
 
 -- a file that was begun, and whose pieces stop
-lost : (x : FolderCall) (old mid new : Diary) → (IsSome mid → mid ≡ with_call x old) → (new ≡ mid) ⊎ ((end : CallEnd) × (new ≡ with_call (piece_as end) mid)) → IsSome new → IsPartRead x old new
-lost x old mid new begun (inl e) kept = Asked x.end (e ∙ begun (same-kept mid new e kept))
-lost x old mid new begun (inr p) kept = PieceLost p.0 (p.1 ∙ ap (with_call (piece_as p.0)) (begun (kept-before _ mid new p.1 kept)))
+lost : (x : FolderCall) (old mid new : Diary) → x.kind ≡ Begin → (IsSome mid → mid ≡ with_call x old) → (new ≡ mid) ⊎ ((end : CallEnd) × (new ≡ with_call (piece_as end) mid)) → IsSome new → IsPartRead x old new
+lost x old mid new kind begun (inl e) kept = Asked x.end (e ∙ begun (same-kept mid new e kept))
+lost x old mid new kind begun (inr p) kept = PieceLost p.0 kind (p.1 ∙ ap (with_call (piece_as p.0)) (begun (kept-before _ mid new p.1 kept)))
 
 pieces-since : (old mid new : Diary) → mid ≡ old → (new ≡ mid) ⊎ ((end : CallEnd) × (new ≡ with_call (piece_as end) mid)) → (new ≡ old) ⊎ ((end : CallEnd) × (new ≡ with_call (piece_as end) old))
 pieces-since old mid new same (inl e) = inl (e ∙ same)
 pieces-since old mid new same (inr p) = inr (p.0, p.1 ∙ ap (with_call (piece_as p.0)) same)
 
-pub pieces-stop : (x : FolderCall) (input : Input) (why : Stop) (old mid new : Diary) → (IsSome mid → mid ≡ with_call x old) → CallsPieces input mid new (Some why)
+pub pieces-stop : (x : FolderCall) (input : Input) (why : Stop) (old mid new : Diary) → x.kind ≡ Begin → (IsSome mid → mid ≡ with_call x old) → CallsPieces input mid new (Some why)
     → CallsOne x input old new (Some why)
-pieces-stop x input (CannotRead i) old mid new begun h = (h.0, λ kept. PieceFailed (h.1 kept ∙ ap (with_call (piece_as Failed)) (begun (kept-before _ mid new (h.1 kept) kept))))
-pieces-stop x input (Refused why) old mid new begun h = λ kept. lost x old mid new begun (h kept) kept
-pieces-stop x input NoMemory old mid new begun h = λ kept. lost x old mid new begun (h kept) kept
+pieces-stop x input (CannotRead i) old mid new kind begun h = (h.0, λ kept. PieceFailed kind (h.1 kept ∙ ap (with_call (piece_as Failed)) (begun (kept-before _ mid new (h.1 kept) kept))))
+pieces-stop x input (Refused why) old mid new kind begun h = λ kept. lost x old mid new kind begun (h kept) kept
+pieces-stop x input NoMemory old mid new kind begun h = λ kept. lost x old mid new kind begun (h kept) kept
 
 -- the same since the file was begun
 pub pieces-fail : (input : Input) (why : Stop) (old mid new : Diary) → mid ≡ old → CallsPieces input mid new (Some why) → CallsPieces input old new (Some why)

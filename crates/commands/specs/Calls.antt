@@ -41,17 +41,17 @@ stopped_by (Err why) = Some why
 
 -- ---- one file
 
--- The call that reads a file failed, or a piece of the file did. The diary has no later call.
+-- The call that reads a file failed, or the file was begun and a piece of it failed. The diary has no later call.
 pub data IsUnread (call : FolderCall) (old new : Diary) : Type 0 where
   CallFailed : new ≡ with_call (ended_as Failed call) old → IsUnread call old new
-  PieceFailed : new ≡ with_call (piece_as Failed) (with_call call old) → IsUnread call old new
+  PieceFailed : call.kind ≡ Begin → new ≡ with_call (piece_as Failed) (with_call call old) → IsUnread call old new
 
 -- The file was not asked for, or the call that reads it was made, or the file was begun and a piece of it was not returned. The
 -- diary has no later call.
 pub data IsPartRead (call : FolderCall) (old new : Diary) : Type 0 where
   NotAsked : new ≡ old → IsPartRead call old new
   Asked : (end : CallEnd) → new ≡ with_call (ended_as end call) old → IsPartRead call old new
-  PieceLost : (end : CallEnd) → new ≡ with_call (piece_as end) (with_call call old) → IsPartRead call old new
+  PieceLost : (end : CallEnd) → call.kind ≡ Begin → new ≡ with_call (piece_as end) (with_call call old) → IsPartRead call old new
 
 -- What the reading of one input by this call leaves of the diary: the call alone, if the input is read. If the input cannot be
 -- read, it is this one, and its call or a piece of it failed.

@@ -1,4 +1,4 @@
-use Rattle.std.proofs.Common.{[]}
+use Rattle.std.proofs.Common.{[], refl}
 use Rattle.std.proofs.lemmas.Result.{err_from_is_err_and}
 use Rattle.constraint_files.specs.Domains.{domains_fed, domains_of}
 use Rattle.commands.specs.Inputs.{file_of, rows_read}
@@ -31,7 +31,7 @@ pub returns-in_err-feed_domains-clause-called : goal.returns-in_err-feed_domains
 returns-in_err-feed_domains-clause-called g c =
     let p = err_from_is_err_and c.from_residual-in_err-feed_domains.result c.from_residual-in_err-feed_domains.ensures.1 in
     rw (p.1, p.2)
-    (pieces-stop (begun_as Done c.args.name.now) Domains c.in_err-feed_domains.field-0.0 _ _ _ c.in_ok-begin.ensures.called c.in_err-feed_domains.ensures.called)
+    (pieces-stop (begun_as Done c.args.name.now) Domains c.in_err-feed_domains.field-0.0 _ _ _ refl c.in_ok-begin.ensures.called c.in_err-feed_domains.ensures.called)
 
 pub returns-in-Ok-finish-clause-called : goal.returns-in-Ok-finish-clause-called
 returns-in-Ok-finish-clause-called g c = read-whole (begun_as Done c.args.name.now) _ _ _ c.in_ok-begin.ensures.called c.in_ok-feed_domains.ensures.called
