@@ -38,7 +38,7 @@ module _ (plan : Plan) (before after : Outside) (finish : Finish) where
 
   -- no command ends at status 2
   never-usage : (asked : Command) → CommandPromises asked before after finish → finish.status ≡ 2 → ⊥
-  never-usage (run names) (p, others) two = off (0 ∷ 1 ∷ 3 ∷ 4 ∷ 5 ∷ 6 ∷ 7 ∷ 8 ∷ []) finish.status 2 p.statuses two refl
+  never-usage (run names) (p, verifies, others) two = off (0 ∷ 1 ∷ 3 ∷ 4 ∷ 5 ∷ 6 ∷ 7 ∷ 8 ∷ []) finish.status 2 p.statuses two refl
   never-usage (check names) (p, others) two = off (0 ∷ 3 ∷ 4 ∷ 5 ∷ 8 ∷ []) finish.status 2 p.statuses two refl
   never-usage (verify names) (p, others) two = off (0 ∷ 1 ∷ 3 ∷ 4 ∷ 5 ∷ 8 ∷ 9 ∷ []) finish.status 2 p.statuses two refl
   never-usage (show names) (p, none) two = off (0 ∷ 1 ∷ 3 ∷ 4 ∷ 5 ∷ 8 ∷ 9 ∷ 10 ∷ []) finish.status 2 p.view.statuses two refl
